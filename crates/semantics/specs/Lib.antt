@@ -1,0 +1,9 @@
+-- What a reader must believe, in the order of document 01: each file restates one of its headings.
+pub mod Cycles
+pub mod Proposition
+pub mod Formula
+pub mod Placement
+pub mod Clause
+pub mod Verdict
+pub mod Reach
+pub mod Translation
