@@ -12,6 +12,9 @@ Names = ℕ → Bool
 unfoldable pub noNames : Names
 noNames u = false
 
+unfoldable pub everyName : Names
+everyName u = true
+
 unfoldable pub union : Names → Names → Names
 union a b u = a u || b u
 

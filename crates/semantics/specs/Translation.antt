@@ -6,7 +6,7 @@ use mathlib.Core.List.{List, [], _∷_}
 use Rattle.semantics.specs.Proposition.{signal, name, negated}
 use Rattle.semantics.specs.Formula.{Formula, point, stretch, whole, unit, chop, conjunction, disjunction, star, slen, scount, sdur, drawn, at, gap, negation, forSome}
 use Rattle.semantics.specs.Formula.{Symbol, low, high, either, lowStretch, highStretch, eitherStretch, steady, below, atMost, equal, atLeast, above}
-use Rattle.semantics.specs.Placement.{Names, noNames, union}
+use Rattle.semantics.specs.Placement.{Names, noNames, everyName, union}
 use Rattle.semantics.specs.Clause.{Part, Kind, pref, init, anti, implies, follows, triggers, Role, assumption, commitment, Clause}
 use Rattle.semantics.specs.Verdict.{hasRole}
 
@@ -20,7 +20,7 @@ extended = slen above 0
 unfoldable pub nothing : Formula
 nothing = slen below 0
 
--- drawings told by the other formulas. A mark is a point that also has length 0: ⟨u⟩ alone holds on long intervals too
+-- drawings told by the other formulas
 unfoldable pub undrawnSymbol : Symbol → ℕ → Formula
 undrawnSymbol low k = unit (negated (signal k))
 undrawnSymbol high k = unit (signal k)
@@ -29,6 +29,10 @@ undrawnSymbol lowStretch k = stretch (negated (signal k))
 undrawnSymbol highStretch k = stretch (signal k)
 undrawnSymbol eitherStretch k = anywhere
 undrawnSymbol steady k = disjunction (stretch (negated (signal k))) (stretch (signal k))
+
+-- ⟨u⟩ with length 0: alone it holds on long intervals too
+unfoldable pub undrawnMark : ℕ → Formula
+undrawnMark u = conjunction (slen equal 0) (point (name u))
 
 unfoldable pub undrawnGap : ℕ → ℕ → ℕ → ℕ → Formula
 undrawnGap u v least most =
@@ -48,25 +52,25 @@ undrawn (slen c n) = slen c n
 undrawn (scount c p n) = scount c p n
 undrawn (sdur c p n) = sdur c p n
 undrawn (drawn s k) = undrawnSymbol s k
-undrawn (at u) = conjunction (slen equal 0) (point (name u))
+undrawn (at u) = undrawnMark u
 undrawn (gap u v least most) = undrawnGap u v least most
 undrawn (negation f) = negation (undrawn f)
 undrawn (forSome u f) = forSome u (undrawn f)
 
--- each name of the set has exactly one mark on the interval, and f holds
+-- name u of the set has exactly one mark on the interval, in a column of its own unless it was placed before, and f holds
 unfoldable pub onceName : ℕ → Names → Formula → Formula
 onceName u names f = cond (names u) (conjunction (scount equal (name u) 1) f) f
 
-unfoldable pub once : Names → Formula → Formula
-once names f = onceName 0 names (onceName 1 names (onceName 2 names f))
-
--- each name of the set that was not placed before gets a column, and each has exactly one mark on the interval
 unfoldable pub placedName : ℕ → Names → Names → Formula → Formula
 placedName u before names f = cond (names u && not (before u)) (forSome u (onceName u names f)) (onceName u names f)
 
 unfoldable pub placed : Names → Names → Formula → Formula
 placed before names f =
     placedName 0 before names (placedName 1 before names (placedName 2 before names f))
+
+-- the same where all names of the set were placed before
+unfoldable pub once : Names → Formula → Formula
+once names f = placed everyName names f
 
 -- f, and on no shorter interval with the same beginning
 unfoldable pub shortestOf : Formula → Formula

@@ -1,0 +1,8 @@
+-- The theorems about the definitions of specs/, lowest first.
+pub mod Tests
+pub mod Cycles
+pub mod Examples
+pub mod Locality
+pub mod Placement
+pub mod Undrawn
+pub mod Placed
