@@ -6,3 +6,7 @@ pub mod Locality
 pub mod Placement
 pub mod Undrawn
 pub mod Placed
+pub mod Formulas
+pub mod Ranges
+pub mod Joined
+pub mod Agreement
