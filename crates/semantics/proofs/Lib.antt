@@ -10,3 +10,4 @@ pub mod Formulas
 pub mod Ranges
 pub mod Joined
 pub mod Agreement
+pub mod Verdict

@@ -40,6 +40,11 @@ pub data Verdict : Type 0 where
   Broken : Place → Verdict
   Holds : Verdict
 
+unfoldable pub isBroken : Verdict → Bool
+isBroken (Excused n) = false
+isBroken (Broken p) = true
+isBroken Holds = false
+
 -- the first place, by i, then j, then k, at which the clause is broken; n is the number of cycles
 unfoldable pub firstPlace : ℕ → ℕ → (ℕ → ℕ → ℕ → Bool) → Place
 firstPlace clause n broken =
