@@ -16,20 +16,16 @@ use Rattle.semantics.specs.Verdict.{hasRole, failsAs, someFails, require
 use Rattle.semantics.specs.Reach.{fits, partsFit, clauseFits, allFit}
 use Rattle.semantics.specs.Translation.{undrawn, placed, once, unansweredOf, brokenOf, brokenClause, joinBroken, translation}
 use Rattle.semantics.proofs.Tests.{same, and-intro, and-left, and-right, or-left, or-right}
+use Rattle.semantics.proofs.Names.{not-none, listed-too, union-left, listed-left, listed-right}
 use Rattle.semantics.proofs.Cycles.{some-cong}
 use Rattle.semantics.proofs.Placement.{placement-cong}
 use Rattle.semantics.proofs.Placed.{Stands, stands-narrower, placed-holds}
-use Rattle.semantics.proofs.Formulas.{Says, says-as, and-is, or-is, not-is, chop-is, nothing-is, prefix-is, suffix-is, shortest-is, in-union, part-is, given-is}
+use Rattle.semantics.proofs.Formulas.{Says, says-as, and-is, or-is, not-is, chop-is, nothing-is, prefix-is, suffix-is, shortest-is, part-is, given-is}
 use Rattle.semantics.proofs.Ranges.{someThree, from-start, on-intervals, on-answers, and-some, some-and, swap}
 use Rattle.semantics.proofs.Joined.{Inside, inside-intro, inside-elim, together, join}
 
 none-stand : (x y : ℕ) (μ : Marks) (ν : Placement) → Stands noNames x y μ ν
-unfolding noNames
-none-stand x y μ ν = record { alike = λ u h. absurd (false≢true h) }
-
-none-before : (K : Names) (u : ℕ) → noNames u ≡ true → K u ≡ true
-unfolding noNames
-none-before K u h = absurd (false≢true h)
+none-stand x y μ ν = record { alike = λ u h. not-none u h }
 
 -- a test of the placement itself goes under the condition that the names lie inside
 inside-and : (names : Names) (x y : ℕ) (ν : Placement) (p q : Placement → Bool)
@@ -43,20 +39,6 @@ inside-and names x y ν p q =
     and-intro (somePlacement everyName names x y ν p) (q ν)
     (inside-intro names x y ν p (record { inside = w .inside; ok = and-left (p ν) (q ν) (w .ok) }))
     (and-right (p ν) (q ν) (w .ok)))
-
-in-first : (Θ₁ Θ₃ : Names) (u : ℕ) → listed Θ₁ u ≡ true → listed (union Θ₁ Θ₃) u ≡ true
-unfolding listed union
-in-first Θ₁ Θ₃ u h =
-    and-intro (ltb u 3) (Θ₁ u || Θ₃ u) (and-left (ltb u 3) (Θ₁ u) h) (or-left (Θ₁ u) (Θ₃ u) (and-right (ltb u 3) (Θ₁ u) h))
-
-in-third : (Θ₁ Θ₃ : Names) (u : ℕ) → listed Θ₃ u ≡ true → listed (union Θ₁ Θ₃) u ≡ true
-unfolding listed union
-in-third Θ₁ Θ₃ u h =
-    and-intro (ltb u 3) (Θ₁ u || Θ₃ u) (and-left (ltb u 3) (Θ₃ u) h) (or-right (Θ₁ u) (Θ₃ u) (and-right (ltb u 3) (Θ₃ u) h))
-
-listed-of : (Θ names : Names) (u : ℕ) → listed Θ u ≡ true → names u ≡ true → listed names u ≡ true
-unfolding listed
-listed-of Θ names u h k = and-intro (ltb u 3) (names u) (and-left (ltb u 3) (Θ u) h) k
 
 -- D3 is Ξ on [s,k] and no l from s to k gives D2 on [s,l], the names of D1 and D3 standing where ν puts them
 abbrev unmet : Part → Part → Part → Trace → ℕ → ℕ → Placement → Bool
@@ -80,7 +62,7 @@ module _ (σ : Trace) (positive : 0 < length σ) where
   unfolding brokenOf
   pref-is d₁ d₂ d₃ w =
       prefix-is (λ j. not (given noNames unplaced d₁ σ 0 j))
-      (λ j l h. not-is (given-is σ l (omega arith) noNames d₁ w (λ u a. none-before noNames u) (none-stand 0 j unmarked unplaced)))
+      (λ j l h. not-is (given-is σ l (omega arith) noNames d₁ w (λ u a. not-none u) (none-stand 0 j unmarked unplaced)))
 
   anti-is : (d₁ d₂ d₃ : Part) → fits d₁ ≡ true
       → Says (brokenOf anti (undrawn (d₁ .formula)) (d₁ .names) (undrawn (d₂ .formula)) (d₂ .names) (undrawn (d₃ .formula)) (d₃ .names)) σ unmarked 0 last
@@ -89,7 +71,7 @@ module _ (σ : Trace) (positive : 0 < length σ) where
   anti-is d₁ d₂ d₃ w =
       suffix-is (λ i. someIn i last (λ j. given noNames unplaced d₁ σ i j))
       (λ i a b. prefix-is (λ j. given noNames unplaced d₁ σ i j)
-      (λ j l h. given-is σ l (omega arith) noNames d₁ w (λ u a. none-before noNames u) (none-stand i j unmarked unplaced)))
+      (λ j l h. given-is σ l (omega arith) noNames d₁ w (λ u a. not-none u) (none-stand i j unmarked unplaced)))
 
   implies-is : (d₁ d₂ d₃ : Part) → fits d₁ ≡ true → fits d₂ ≡ true
       → Says (brokenOf implies (undrawn (d₁ .formula)) (d₁ .names) (undrawn (d₂ .formula)) (d₂ .names) (undrawn (d₃ .formula)) (d₃ .names)) σ unmarked 0 last
@@ -99,10 +81,10 @@ module _ (σ : Trace) (positive : 0 < length σ) where
       suffix-is (λ i. someIn i last (λ j. somePlacement noNames (d₁ .names) i j unplaced (λ ν. on d₁ σ ν i j && not (given (d₁ .names) ν d₂ σ i j))))
       (λ i a b. prefix-is (λ j. somePlacement noNames (d₁ .names) i j unplaced (λ ν. on d₁ σ ν i j && not (given (d₁ .names) ν d₂ σ i j)))
       (λ j l h. placed-is noNames (d₁ .names) noNames (λ ν. on d₁ σ ν i j && not (given (d₁ .names) ν d₂ σ i j)) h
-      (λ u a. none-before noNames u) (none-stand i j unmarked unplaced)
-      (λ μ ν s. and-is (part-is σ l (omega arith) d₁ w₁ (in-union (d₁ .names) noNames) s)
+      (λ u a. not-none u) (none-stand i j unmarked unplaced)
+      (λ μ ν s. and-is (part-is σ l (omega arith) d₁ w₁ (union-left (listed (d₁ .names)) noNames) s)
       (not-is (given-is σ l (omega arith) (d₁ .names) d₂ w₂
-      (λ u p q. in-union (d₁ .names) noNames u (listed-of (d₂ .names) (d₁ .names) u p q)) s)))))
+      (λ u p q. union-left (listed (d₁ .names)) noNames u (listed-too (d₂ .names) (d₁ .names) u p q)) s)))))
 
   init-is : (d₁ d₂ d₃ : Part) → fits d₁ ≡ true → fits d₂ ≡ true
       → Says (brokenOf init (undrawn (d₁ .formula)) (d₁ .names) (undrawn (d₂ .formula)) (d₂ .names) (undrawn (d₃ .formula)) (d₃ .names)) σ unmarked 0 last
@@ -111,11 +93,11 @@ module _ (σ : Trace) (positive : 0 < length σ) where
   init-is d₁ d₂ d₃ w₁ w₂ =
       prefix-is (λ j. somePlacement noNames (d₂ .names) 0 j unplaced (λ ν. on d₂ σ ν 0 j && not (someIn 0 j (λ l. given (d₂ .names) ν d₁ σ 0 l))))
       (λ j l h. placed-is noNames (d₂ .names) noNames (λ ν. on d₂ σ ν 0 j && not (someIn 0 j (λ l. given (d₂ .names) ν d₁ σ 0 l))) h
-      (λ u a. none-before noNames u) (none-stand 0 j unmarked unplaced)
-      (λ μ ν s. and-is (part-is σ l (omega arith) d₂ w₂ (in-union (d₂ .names) noNames) s)
+      (λ u a. not-none u) (none-stand 0 j unmarked unplaced)
+      (λ μ ν s. and-is (part-is σ l (omega arith) d₂ w₂ (union-left (listed (d₂ .names)) noNames) s)
       (not-is (prefix-is (λ l. given (d₂ .names) ν d₁ σ 0 l)
       (λ t a b. given-is σ a (omega arith) (d₂ .names) d₁ w₁
-      (λ u p q. in-union (d₂ .names) noNames u (listed-of (d₁ .names) (d₂ .names) u p q)) (stands-narrower 0 t (omega arith) b s))))))
+      (λ u p q. union-left (listed (d₂ .names)) noNames u (listed-too (d₁ .names) (d₂ .names) u p q)) (stands-narrower 0 t (omega arith) b s))))))
 
   module _ (d₁ d₂ d₃ : Part) (w₁ : fits d₁ ≡ true) (w₂ : fits d₂ ≡ true) (w₃ : fits d₃ ≡ true) where
     abbrev Θ₁₃ : Names
@@ -130,7 +112,7 @@ module _ (σ : Trace) (positive : 0 < length σ) where
     unfolding once given
     first-is i j l h s =
         given-is σ l (omega arith) everyName d₁ w₁
-        (λ u a b. in-union Θ₁₃ noNames u (in-first (d₁ .names) (d₃ .names) u a)) s
+        (λ u a b. union-left (listed Θ₁₃) noNames u (listed-left (d₁ .names) (d₃ .names) u a)) s
 
     unmet-is : {μ : Marks} {ν : Placement} (s k : ℕ) → s ≤ k → k ≤ last → Stands K₁₃ s k μ ν
         → Says (unansweredOf (d₁ .names) (undrawn (d₂ .formula)) (d₂ .names) (undrawn (d₃ .formula)) (d₃ .names)) σ μ s k
@@ -140,12 +122,12 @@ module _ (σ : Trace) (positive : 0 < length σ) where
         says-as (inside-and (d₃ .names) s k ν (λ ν′. shortest d₃ σ ν′ s k) (λ ν′. not (someIn s k (λ l. given Θ₁₃ ν′ d₂ σ s l))))
         (and-is
         (placed-is everyName (d₃ .names) K₁₃ (λ ν′. shortest d₃ σ ν′ s k) h
-        (λ u a b. in-union Θ₁₃ noNames u (in-third (d₁ .names) (d₃ .names) u a)) st
+        (λ u a b. union-left (listed Θ₁₃) noNames u (listed-right (d₁ .names) (d₃ .names) u a)) st
         (λ μ′ ν′ s′. shortest-is (λ z. on d₃ σ ν′ s z) l
-        (λ z a b. part-is σ a (omega arith) d₃ w₃ (in-union (d₃ .names) K₁₃) (stands-narrower s z (omega arith) b s′))))
+        (λ z a b. part-is σ a (omega arith) d₃ w₃ (union-left (listed (d₃ .names)) K₁₃) (stands-narrower s z (omega arith) b s′))))
         (not-is (prefix-is (λ l. given Θ₁₃ ν d₂ σ s l)
         (λ z a b. given-is σ a (omega arith) Θ₁₃ d₂ w₂
-        (λ u p q. in-union Θ₁₃ noNames u (listed-of (d₂ .names) Θ₁₃ u p q)) (stands-narrower s z (omega arith) b st)))))
+        (λ u p q. union-left (listed Θ₁₃) noNames u (listed-too (d₂ .names) Θ₁₃ u p q)) (stands-narrower s z (omega arith) b st)))))
 
     -- one placement of the names of D1 and D3 from i to the end, for every j and k: an answer starts at i or at j
     answers : (i : ℕ) (start : ℕ → ℕ) → ((j : ℕ) → i ≤ j → i ≤ start j)
@@ -176,7 +158,7 @@ module _ (σ : Trace) (positive : 0 < length σ) where
         (λ i a b. says-as (answers i (λ j. j) (λ j l. l))
         (placed-is noNames Θ₁₃ noNames
         (λ ν. someIn i last (λ j. someIn j last (λ k. together d₁ (d₃ .names) σ i j j k (unmet d₁ d₂ d₃ σ j k) ν)))
-        (omega arith) (λ u a. none-before noNames u) (none-stand i last unmarked unplaced)
+        (omega arith) (λ u a. not-none u) (none-stand i last unmarked unplaced)
         (λ μ ν s. says-as
         (some-cong i (suc last)
         (λ j. somePlacement everyName (d₁ .names) i j ν (λ ν′. on d₁ σ ν′ i j)
@@ -198,7 +180,7 @@ module _ (σ : Trace) (positive : 0 < length σ) where
         (λ i a b. says-as (answers i (λ j. i) (λ j l. omega arith))
         (placed-is noNames Θ₁₃ noNames
         (λ ν. someIn i last (λ j. someIn i last (λ k. together d₁ (d₃ .names) σ i j i k (unmet d₁ d₂ d₃ σ i k) ν)))
-        (omega arith) (λ u a. none-before noNames u) (none-stand i last unmarked unplaced)
+        (omega arith) (λ u a. not-none u) (none-stand i last unmarked unplaced)
         (λ μ ν s. says-as
         (some-and (someIn i last (λ k. somePlacement everyName (d₃ .names) i k ν (unmet d₁ d₂ d₃ σ i k))) i (suc last)
         (λ j. somePlacement everyName (d₁ .names) i j ν (λ ν′. on d₁ σ ν′ i j))

@@ -13,7 +13,8 @@ use Rattle.semantics.specs.Placement.{Names, union, listed, Placement, m
 use Rattle.semantics.specs.Clause.{Part, on, given}
 use Rattle.semantics.specs.Reach.{fits}
 use Rattle.semantics.specs.Translation.{anywhere, extended, nothing, undrawn, placed, shortestOf}
-use Rattle.semantics.proofs.Tests.{and-left, and-right, and-intro, or-left}
+use Rattle.semantics.proofs.Tests.{and-left, and-right, and-intro, and-true-right}
+use Rattle.semantics.proofs.Names.{union-left}
 use Rattle.semantics.proofs.Cycles.{some-cong, some-same}
 use Rattle.semantics.proofs.Locality.{local}
 use Rattle.semantics.proofs.Undrawn.{undrawn-holds}
@@ -66,12 +67,8 @@ module _ {σ : Trace} {μ : Marks} {b e : ℕ} where
   pub prefix-is : {f : Formula} (p : ℕ → Bool) → ((i : ℕ) → b ≤ i → i ≤ e → Says f σ μ b i (p i))
       → Says (chop f anywhere) σ μ b e (someIn b e p)
   prefix-is p h =
-      says-as (some-cong b (suc e) (λ i. p i && true) p (λ i l m. true-right (p i)))
+      says-as (some-cong b (suc e) (λ i. p i && true) p (λ i l m. and-true-right (p i)))
       (chop-is p (λ i. true) h (λ i l m. anywhere-is))
-    where
-      true-right : (a : Bool) → a && true ≡ a
-      true-right true = refl
-      true-right false = refl
 
   -- f from somewhere to the end
   pub suffix-is : {f : Formula} (p : ℕ → Bool) → ((i : ℕ) → b ≤ i → i ≤ e → Says f σ μ i e (p i))
@@ -87,10 +84,6 @@ shortest-is {x = x} {y} p l h =
     (λ z a b q. (a, (let r = ltb-true 0 (y - z) (and-right (p z) (ltb 0 (y - z)) q) in omega arith), and-left (p z) (ltb 0 (y - z)) q))
     (λ z a b q. (a, (omega arith), and-intro (p z) (ltb 0 (y - z)) q (lt-ltb 0 (y - z) (omega arith)))))
     (chop-is p (λ z. ltb 0 (y - z)) h (λ z a b. extended-is))))
-
-pub in-union : (names K : Names) (u : ℕ) → listed names u ≡ true → union (listed names) K u ≡ true
-unfolding union
-in-union names K u h = or-left (listed names u) (K u) h
 
 -- a part, where its names stand
 module _ (σ : Trace) {x y : ℕ} (o : x ≤ y) (i : y < length σ) where
@@ -114,5 +107,5 @@ module _ (σ : Trace) {x y : ℕ} (o : x ≤ y) (i : y < length σ) where
       record {
         same =
             placed-holds σ x y i before (d .names) K (undrawn (d .formula)) (λ ν′. on d σ ν′ x y) μ ν k s
-            (λ μ′ ν′ s′. part-is d w (in-union (d .names) K) s′ .same);
+            (λ μ′ ν′ s′. part-is d w (union-left (listed (d .names)) K) s′ .same);
       }

@@ -11,7 +11,8 @@ use Rattle.semantics.specs.Proposition.{Trace}
 use Rattle.semantics.specs.Placement.{Names, noNames, everyName, union, listed, Placement, unplaced, marks, somePlacement}
 use Rattle.semantics.specs.Clause.{Part, on}
 use Rattle.semantics.specs.Reach.{fits}
-use Rattle.semantics.proofs.Tests.{same, test, and-intro, and-left, and-right, or-left, or-right, is-false, false-not}
+use Rattle.semantics.proofs.Tests.{same, test, and-intro, and-left, and-right, and-false-left, and-false-right, and-true-right, not-is-false}
+use Rattle.semantics.proofs.Names.{listed-is, listed-neither, unlisted, listed-other}
 use Rattle.semantics.proofs.Locality.{local}
 use Rattle.semantics.proofs.Placement.{Agreeing, placement-intro, placement-elim}
 
@@ -30,12 +31,8 @@ pub inside-elim : (names : Names) (x y : ℕ) (ν : Placement) (p : Placement �
 unfolding everyName
 inside-elim names x y ν p h =
     let w = placement-elim everyName names x y ν p h in
-    let e : w .to ≡ ν = fun-ext (λ u. w .agreeing .kept u (none (listed names u))) in
+    let e : w .to ≡ ν = fun-ext (λ u. w .agreeing .kept u (and-false-right (listed names u) false refl)) in
     record { inside = subst (λ (ν′ : Placement). (u : ℕ) → listed names u ≡ true → (x ≤ ν′ u) × (ν′ u ≤ y)) e (w .agreeing .inside); ok = rw e at (w .ok) }
-  where
-    none : (a : Bool) → a && not true ≡ false
-    none true = refl
-    none false = refl
 
 -- a part's truth depends only on where its own names stand
 pub on-local : (d : Part) (σ : Trace) (ν ν′ : Placement) (x y : ℕ) → fits d ≡ true → x ≤ y → y < length σ
@@ -56,53 +53,6 @@ restricted-on names ν u h = rw h
 restricted-off : (names : Names) (ν : Placement) (u : ℕ) → listed names u ≡ false → restricted names ν u ≡ 0
 unfolding restricted
 restricted-off names ν u h = rw h
-
--- a name that the first set does not list is listed by the other alone, or not at all
-not-first : (Θ₁ Θ₃ : Names) (u : ℕ) → listed Θ₁ u ≡ false → listed Θ₃ u && not (Θ₁ u) ≡ false → listed (union Θ₁ Θ₃) u ≡ false
-unfolding listed union
-not-first Θ₁ Θ₃ u h k = go (ltb u 3) (Θ₁ u) (Θ₃ u) h k
-  where
-    go : (a b c : Bool) → a && b ≡ false → a && c && not b ≡ false → a && (b || c) ≡ false
-    go true true c h k = h
-    go true false true h k = k
-    go true false false h k = refl
-    go false b c h k = refl
-
-union-off : (Θ₁ Θ₃ : Names) (u : ℕ) → listed (union Θ₁ Θ₃) u ≡ false → (listed Θ₁ u ≡ false) × (listed Θ₃ u ≡ false)
-unfolding listed union
-union-off Θ₁ Θ₃ u h = go (ltb u 3) (Θ₁ u) (Θ₃ u) h
-  where
-    go : (a b c : Bool) → a && (b || c) ≡ false → (a && b ≡ false) × (a && c ≡ false)
-    go true true c h = absurd (true≢false h)
-    go true false c h = (refl, h)
-    go false b c h = (refl, refl)
-
-union-on : (Θ₁ Θ₃ : Names) (u : ℕ) → listed (union Θ₁ Θ₃) u ≡ true → listed Θ₁ u ≡ false → listed Θ₃ u ≡ true
-unfolding listed union
-union-on Θ₁ Θ₃ u h = go (ltb u 3) (Θ₁ u) (Θ₃ u) h
-  where
-    go : (a b c : Bool) → a && (b || c) ≡ true → a && b ≡ false → a && c ≡ true
-    go true true c h k = absurd (true≢false k)
-    go true false c h k = h
-    go false b c h k = h
-
-and-false-left : (a b : Bool) → a ≡ false → a && b ≡ false
-and-false-left true b h = absurd (true≢false h)
-and-false-left false b h = refl
-
-and-not-true : (a b : Bool) → b ≡ true → a && not b ≡ false
-and-not-true true true h = refl
-and-not-true false true h = refl
-and-not-true true false h = sym h
-and-not-true false false h = refl
-
-listed-is : (names : Names) (u : ℕ) → listed names u ≡ true → names u ≡ true
-unfolding listed
-listed-is names u h = and-right (ltb u 3) (names u) h
-
-true-right : (a : Bool) → a && true ≡ false → a ≡ false
-true-right true h = h
-true-right false h = refl
 
 -- with no name placed before, what is not listed stands nowhere
 stands-nowhere : {names : Names} {x y : ℕ} {ν : Placement} (u : ℕ) → listed names u ≡ false → Agreeing noNames names x y unplaced ν → ν u ≡ 0
@@ -130,7 +80,7 @@ module _ (d₁ : Part) (Θ₃ : Names) (σ : Trace) (fit : fits d₁ ≡ true) (
       placement-intro noNames Θ₁ i j unplaced (inTurn d₁ Θ₃ σ i j s k q) (restricted Θ₁ ν)
       (record {
         inside = λ u h. rw (restricted-on Θ₁ ν u h) (first .inside u h);
-        kept = λ u h. restricted-off Θ₁ ν u (true-right (listed Θ₁ u) h);
+        kept = λ u h. restricted-off Θ₁ ν u (sym (and-true-right (listed Θ₁ u)) ∙ h);
       })
       (and-intro (on d₁ σ (restricted Θ₁ ν) i j) (somePlacement Θ₁ Θ₃ s k (restricted Θ₁ ν) q)
       (on-local d₁ σ (restricted Θ₁ ν) ν i j fit ij (omega arith) (restricted-on Θ₁ ν) ∙ first .ok)
@@ -140,7 +90,7 @@ module _ (d₁ : Part) (Θ₃ : Names) (σ : Trace) (fit : fits d₁ ≡ true) (
       kept u h =
           elim (test (listed Θ₁ u)) [
             | inl e ↦ sym (restricted-on Θ₁ ν u e)
-            | inr e ↦ stands-nowhere u (not-first Θ₁ Θ₃ u e h) a ∙ sym (restricted-off Θ₁ ν u e)
+            | inr e ↦ stands-nowhere u (listed-neither Θ₁ Θ₃ u e h) a ∙ sym (restricted-off Θ₁ ν u e)
           ]
 
   joins : (ν₁ ν : Placement) → Agreeing noNames Θ₁ i j unplaced ν₁ → on d₁ σ ν₁ i j ≡ true → Agreeing Θ₁ Θ₃ s k ν₁ ν → q ν ≡ true
@@ -157,18 +107,18 @@ module _ (d₁ : Part) (Θ₃ : Names) (σ : Trace) (fit : fits d₁ ≡ true) (
       (inside-intro Θ₃ s k ν q (record { inside = a₃ .inside; ok = o₃ })))
     where
       shared : (u : ℕ) → listed Θ₁ u ≡ true → ν u ≡ ν₁ u
-      shared u h = a₃ .kept u (and-not-true (listed Θ₃ u) (Θ₁ u) (listed-is Θ₁ u h))
+      shared u h = a₃ .kept u (and-false-right (listed Θ₃ u) (not (Θ₁ u)) (not-is-false (Θ₁ u) (listed-is Θ₁ u h)))
 
       inside : (u : ℕ) → listed (union Θ₁ Θ₃) u ≡ true → (i ≤ ν u) × (ν u ≤ m)
       inside u h =
           elim (test (listed Θ₁ u)) [
             | inl e ↦ rw (shared u e) (let r = a₁ .inside u e in omega arith)
-            | inr e ↦ let r = a₃ .inside u (union-on Θ₁ Θ₃ u h e) in omega arith
+            | inr e ↦ let r = a₃ .inside u (listed-other Θ₁ Θ₃ u h e) in omega arith
           ]
 
       kept : (u : ℕ) → listed (union Θ₁ Θ₃) u && not (noNames u) ≡ false → ν u ≡ 0
       kept u h =
-          let off = union-off Θ₁ Θ₃ u (true-right (listed (union Θ₁ Θ₃) u) h) in
+          let off = unlisted Θ₁ Θ₃ u (sym (and-true-right (listed (union Θ₁ Θ₃) u)) ∙ h) in
           a₃ .kept u (and-false-left (listed Θ₃ u) (not (Θ₁ u)) (off .1)) ∙ stands-nowhere u (off .0) a₁
 
   pub join : somePlacement noNames (d₁ .names) i j unplaced (inTurn d₁ Θ₃ σ i j s k q)

@@ -1,5 +1,6 @@
 -- The theorems about the definitions of specs/, lowest first.
 pub mod Tests
+pub mod Names
 pub mod Cycles
 pub mod Examples
 pub mod Locality
@@ -11,3 +12,4 @@ pub mod Ranges
 pub mod Joined
 pub mod Agreement
 pub mod Verdict
+pub mod Reading

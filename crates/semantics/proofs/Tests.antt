@@ -52,3 +52,19 @@ is-false false f = refl
 pub false-not : (a : Bool) → a ≡ false → a ≡ true → ⊥
 false-not true p q = true≢false p
 false-not false p q = false≢true q
+
+pub and-false-left : (a b : Bool) → a ≡ false → a && b ≡ false
+and-false-left true b h = absurd (true≢false h)
+and-false-left false b h = refl
+
+pub and-false-right : (a b : Bool) → b ≡ false → a && b ≡ false
+and-false-right true b h = h
+and-false-right false b h = refl
+
+pub and-true-right : (a : Bool) → a && true ≡ a
+and-true-right true = refl
+and-true-right false = refl
+
+pub not-is-false : (a : Bool) → a ≡ true → not a ≡ false
+not-is-false true h = refl
+not-is-false false h = sym h

@@ -68,7 +68,7 @@ here r from c cs σ h =
       counted = omega arith;
       role = and-left (hasRole r c) (fails c σ) h;
       failing = and-right (hasRole r c) (fails c σ) h;
-      first = refl
+      first = refl;
     }
 
 there : (r : Role) (from : ℕ) (c : Clause) (cs : List Clause) (σ : Trace) (number : ℕ) (d : Clause) → failsAs r σ c ≡ false
@@ -82,7 +82,7 @@ there r from c cs σ number d h w =
       counted = omega (arith, w .counted);
       role = w .role;
       failing = w .failing;
-      first = rw h (w .first)
+      first = rw h (w .first);
     }
 
 never : (n : ℕ) (p : Place) → Excused n ≡ Broken p → ⊥
@@ -140,18 +140,21 @@ place-first clause n broken h =
       j-cycle = at-j .high;
       k-cycle = at-k .high;
       ok = at-k .ok;
-      before = λ i′ j′ k′ hj hk. elim
-        [ inl l ↦ is-false (broken i′ j′ k′) (λ q.
+      before = λ i′ j′ k′ hj hk. elim [
+        | inl l ↦ is-false (broken i′ j′ k′) (λ q.
             false-not (someBelow n (λ j. someBelow n (λ k. broken i′ j k))) (at-i .before i′ l)
             (below-intro n (λ j. someBelow n (λ k. broken i′ j k)) j′ hj (below-intro n (λ k. broken i′ j′ k) k′ hk q)))
-        | inr r ↦ rw (r .0) (elim (r .1)
-            [ inl l ↦ is-false (broken i j′ k′) (λ q.
-                false-not (someBelow n (λ k. broken i j′ k)) (at-j .before j′ l) (below-intro n (λ k. broken i j′ k) k′ hk q))
-            | inr e ↦ rw (e .0) (at-k .before k′ (e .1)) ]) ]
+        | inr r ↦ rw (r .0) (elim (r .1) [
+          | inl l ↦ is-false (broken i j′ k′) (λ q.
+              false-not (someBelow n (λ k. broken i j′ k)) (at-j .before j′ l) (below-intro n (λ k. broken i j′ k) k′ hk q))
+          | inr e ↦ rw (e .0) (at-k .before k′ (e .1))
+        ])
+      ];
     }
   where
     i : ℕ
     i = firstBelow n (λ i. someBelow n (λ j. someBelow n (λ k. broken i j k)))
+
     j : ℕ
     j = firstBelow n (λ j. someBelow n (λ k. broken i j k))
 
@@ -168,7 +171,7 @@ broken-here from c cs σ e =
     record {
       commitment-of = c;
       failing = here commitment from c cs σ e;
-      place = place-first from (length σ) (breaks c σ) (and-right (hasRole commitment c) (fails c σ) e)
+      place = place-first from (length σ) (breaks c σ) (and-right (hasRole commitment c) (fails c σ) e);
     }
 
 broken-from : (from : ℕ) (cs : List Clause) (σ : Trace) (p : Place) → brokenOr from cs σ Holds ≡ Broken p → FirstBroken from cs σ p
@@ -180,7 +183,7 @@ broken-from from (c ∷ cs) σ p h = go (failsAs commitment σ c) refl h (broken
         → cond a (Broken (firstPlace from (length σ) (breaks c σ))) (brokenOr (suc from) cs σ Holds) ≡ Broken p
         → (brokenOr (suc from) cs σ Holds ≡ Broken p → FirstBroken (suc from) cs σ p) → FirstBroken from (c ∷ cs) σ p
     go true e h f = let q : firstPlace from (length σ) (breaks c σ) ≡ p = cc in rw (← q) (broken-here from c cs σ e)
-    go false e h f = 
+    go false e h f =
         let w = f h in
         record { commitment-of = w .commitment-of; failing = there commitment from c cs σ (p .clause) (w .commitment-of) e (w .failing); place = w .place }
 
