@@ -147,7 +147,7 @@ module _ (σ : Trace) (positive : 0 < length σ) where
         ∙ some-cong (start j) (suc last)
         (λ k. somePlacement noNames Θ₁₃ i last unplaced (together d₁ (d₃ .names) σ i j (start j) k (unmet d₁ d₂ d₃ σ (start j) k)))
         (λ k. unanswered d₁ d₂ d₃ σ i j (start j) k)
-        (λ k a b. sym (join d₁ (d₃ .names) σ w₁ i j (start j) k last l (omega arith) (later j l) (omega arith) (omega arith)
+        (λ k a b. sym (join d₁ (d₃ .names) σ w₁ i i j (start j) k last (omega arith) l (omega arith) (later j l) (omega arith) (omega arith)
         (unmet d₁ d₂ d₃ σ (start j) k))))
 
     follows-is : Says (brokenOf follows (undrawn (d₁ .formula)) (d₁ .names) (undrawn (d₂ .formula)) (d₂ .names) (undrawn (d₃ .formula)) (d₃ .names)) σ unmarked 0 last

@@ -1,4 +1,4 @@
--- Two parts that share names: one placement of all their names from i to the end of the trace, with each part's names inside its own
+-- Two parts that share names: one placement of all their names over some wider interval [low,m], with each part's names inside its own
 -- interval, is the same as a placement of the first part's names and then an agreeing one of the other's.
 use Prim.Native.Nat.{ℕ, zero, suc, _≤_, _<_}
 use native.Mathlib.Omega.{arith}
@@ -68,12 +68,12 @@ together d₁ Θ₃ σ i j s k q ν =
 abbrev pub inTurn : Part → Names → Trace → ℕ → ℕ → ℕ → ℕ → (Placement → Bool) → Placement → Bool
 inTurn d₁ Θ₃ σ i j s k q ν = on d₁ σ ν i j && somePlacement (d₁ .names) Θ₃ s k ν q
 
-module _ (d₁ : Part) (Θ₃ : Names) (σ : Trace) (fit : fits d₁ ≡ true) (i j s k m : ℕ) (ij : i ≤ j) (jm : j ≤ m) (is : i ≤ s) (km : k ≤ m)
-    (inσ : m < length σ) (q : Placement → Bool) where
+module _ (d₁ : Part) (Θ₃ : Names) (σ : Trace) (fit : fits d₁ ≡ true) (low i j s k m : ℕ) (li : low ≤ i) (ij : i ≤ j) (jm : j ≤ m)
+    (ls : low ≤ s) (km : k ≤ m) (inσ : m < length σ) (q : Placement → Bool) where
   abbrev Θ₁ : Names
   Θ₁ = d₁ .names
 
-  splits : (ν : Placement) → Agreeing noNames (union Θ₁ Θ₃) i m unplaced ν → Inside Θ₁ i j ν (λ ν′. on d₁ σ ν′ i j) → Inside Θ₃ s k ν q
+  splits : (ν : Placement) → Agreeing noNames (union Θ₁ Θ₃) low m unplaced ν → Inside Θ₁ i j ν (λ ν′. on d₁ σ ν′ i j) → Inside Θ₃ s k ν q
       → somePlacement noNames Θ₁ i j unplaced (inTurn d₁ Θ₃ σ i j s k q) ≡ true
   unfolding noNames unplaced
   splits ν a first third =
@@ -94,10 +94,10 @@ module _ (d₁ : Part) (Θ₃ : Names) (σ : Trace) (fit : fits d₁ ≡ true) (
           ]
 
   joins : (ν₁ ν : Placement) → Agreeing noNames Θ₁ i j unplaced ν₁ → on d₁ σ ν₁ i j ≡ true → Agreeing Θ₁ Θ₃ s k ν₁ ν → q ν ≡ true
-      → somePlacement noNames (union Θ₁ Θ₃) i m unplaced (together d₁ Θ₃ σ i j s k q) ≡ true
+      → somePlacement noNames (union Θ₁ Θ₃) low m unplaced (together d₁ Θ₃ σ i j s k q) ≡ true
   unfolding noNames unplaced
   joins ν₁ ν a₁ o₁ a₃ o₃ =
-      placement-intro noNames (union Θ₁ Θ₃) i m unplaced (together d₁ Θ₃ σ i j s k q) ν (record { inside = inside; kept = kept })
+      placement-intro noNames (union Θ₁ Θ₃) low m unplaced (together d₁ Θ₃ σ i j s k q) ν (record { inside = inside; kept = kept })
       (and-intro (somePlacement everyName Θ₁ i j ν (λ ν′. on d₁ σ ν′ i j)) (somePlacement everyName Θ₃ s k ν q)
       (inside-intro Θ₁ i j ν (λ ν′. on d₁ σ ν′ i j)
       (record {
@@ -109,7 +109,7 @@ module _ (d₁ : Part) (Θ₃ : Names) (σ : Trace) (fit : fits d₁ ≡ true) (
       shared : (u : ℕ) → listed Θ₁ u ≡ true → ν u ≡ ν₁ u
       shared u h = a₃ .kept u (and-false-right (listed Θ₃ u) (not (Θ₁ u)) (not-is-false (Θ₁ u) (listed-is Θ₁ u h)))
 
-      inside : (u : ℕ) → listed (union Θ₁ Θ₃) u ≡ true → (i ≤ ν u) × (ν u ≤ m)
+      inside : (u : ℕ) → listed (union Θ₁ Θ₃) u ≡ true → (low ≤ ν u) × (ν u ≤ m)
       inside u h =
           elim (test (listed Θ₁ u)) [
             | inl e ↦ rw (shared u e) (let r = a₁ .inside u e in omega arith)
@@ -122,14 +122,14 @@ module _ (d₁ : Part) (Θ₃ : Names) (σ : Trace) (fit : fits d₁ ≡ true) (
           a₃ .kept u (and-false-left (listed Θ₃ u) (not (Θ₁ u)) (off .1)) ∙ stands-nowhere u (off .0) a₁
 
   pub join : somePlacement noNames (d₁ .names) i j unplaced (inTurn d₁ Θ₃ σ i j s k q)
-      ≡ somePlacement noNames (union (d₁ .names) Θ₃) i m unplaced (together d₁ Θ₃ σ i j s k q)
+      ≡ somePlacement noNames (union (d₁ .names) Θ₃) low m unplaced (together d₁ Θ₃ σ i j s k q)
   join =
       same (somePlacement noNames Θ₁ i j unplaced (inTurn d₁ Θ₃ σ i j s k q))
-      (somePlacement noNames (union Θ₁ Θ₃) i m unplaced (together d₁ Θ₃ σ i j s k q))
+      (somePlacement noNames (union Θ₁ Θ₃) low m unplaced (together d₁ Θ₃ σ i j s k q))
       (λ h. let w₁ = placement-elim noNames Θ₁ i j unplaced (inTurn d₁ Θ₃ σ i j s k q) h in
       let w₃ = placement-elim Θ₁ Θ₃ s k (w₁ .to) q (and-right (on d₁ σ (w₁ .to) i j) (somePlacement Θ₁ Θ₃ s k (w₁ .to) q) (w₁ .ok)) in
       joins (w₁ .to) (w₃ .to) (w₁ .agreeing) (and-left (on d₁ σ (w₁ .to) i j) (somePlacement Θ₁ Θ₃ s k (w₁ .to) q) (w₁ .ok)) (w₃ .agreeing) (w₃ .ok))
-      (λ h. let w = placement-elim noNames (union Θ₁ Θ₃) i m unplaced (together d₁ Θ₃ σ i j s k q) h in
+      (λ h. let w = placement-elim noNames (union Θ₁ Θ₃) low m unplaced (together d₁ Θ₃ σ i j s k q) h in
       let A : Bool = somePlacement everyName Θ₁ i j (w .to) (λ ν′. on d₁ σ ν′ i j) in
       let B : Bool = somePlacement everyName Θ₃ s k (w .to) q in
       splits (w .to) (w .agreeing) (inside-elim Θ₁ i j (w .to) (λ ν′. on d₁ σ ν′ i j) (and-left A B (w .ok)))
