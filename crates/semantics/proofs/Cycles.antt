@@ -1,5 +1,5 @@
 -- Laws of the tests over cycles and over columns: from a witness, to a witness, and by agreement of the tests.
-use Prim.Native.Nat.{ℕ, zero, suc, _+_, _≤_, _<_}
+use Prim.Native.Nat.{ℕ, zero, suc, _+_, _-_, _≤_, _<_}
 use native.Mathlib.Omega.{arith}
 use native.Mathlib.Nat.{le-of-suc-le-suc, not-suc-le-zero, eq-or-lt-of-le, add-comm}
 use mathlib.Core.Bool.{Bool, true, false, not, cond, _&&_, _||_, false≢true}
@@ -8,7 +8,7 @@ use mathlib.Core.Logic.{_⊎_, inl, inr}
 use mathlib.Core.Path.{_≡_, refl, sym, ap, ap₂, subst, _∙_}
 use lib.Dec.{leb, eqb}
 use lib.ListN.{getD}
-use borrow.Author.Tests.{leb-true, le-leb, lt-leb}
+use borrow.Author.Tests.{leb-true, leb-false, le-leb}
 use Rattle.semantics.specs.Cycles.{someBelow, someFrom, countBelow, countFrom, firstBelow, someColumn}
 use Rattle.semantics.proofs.Tests.{same, test, and-intro, and-left, and-right, or-left, or-right, or-elim, is-false, false-not}
 
@@ -38,6 +38,11 @@ below-elim (suc n) p h =
   where
     wider : Witness 0 n p → Witness 0 (suc n) p
     wider w = record { at = w .at; low = w .low; high = omega arith; ok = w .ok }
+
+pub below-cong : (n : ℕ) (p q : ℕ → Bool) → ((i : ℕ) → i < n → p i ≡ q i) → someBelow n p ≡ someBelow n q
+unfolding someBelow
+below-cong zero p q f = refl
+below-cong (suc n) p q f = ap₂ _||_ (below-cong n p q (λ i l. f i (omega arith))) (f n (omega arith))
 
 -- ---- some cycle from b up to, but without, e
 pub some-intro : (b e : ℕ) (p : ℕ → Bool) (i : ℕ) → b ≤ i → i < e → p i ≡ true → someFrom b e p ≡ true
@@ -79,11 +84,11 @@ pub every-cong : (b e : ℕ) (p q : ℕ → Bool) → ((i : ℕ) → b ≤ i →
 every-cong b e p q f = ap not (some-cong b e (λ i. not (p i)) (λ i. not (q i)) (λ i l h. ap not (f i l h)))
 
 -- ---- counts
-below-count : (n : ℕ) (p q : ℕ → Bool) → ((i : ℕ) → i < n → p i ≡ q i) → countBelow n p ≡ countBelow n q
+pub count-below-cong : (n : ℕ) (p q : ℕ → Bool) → ((i : ℕ) → i < n → p i ≡ q i) → countBelow n p ≡ countBelow n q
 unfolding countBelow
-below-count zero p q f = refl
-below-count (suc n) p q f =
-    ap₂ (λ (x : ℕ) (a : Bool). x + cond a 1 0) (below-count n p q (λ i h. f i (omega arith))) (f n (omega arith))
+count-below-cong zero p q f = refl
+count-below-cong (suc n) p q f =
+    ap₂ (λ (x : ℕ) (a : Bool). x + cond a 1 0) (count-below-cong n p q (λ i h. f i (omega arith))) (f n (omega arith))
 
 and-cong : (a p q : Bool) → (a ≡ true → p ≡ q) → a && p ≡ (a && q)
 and-cong true p q f = f refl
@@ -92,8 +97,46 @@ and-cong false p q f = refl
 pub count-cong : (b e : ℕ) (p q : ℕ → Bool) → ((i : ℕ) → b ≤ i → i < e → p i ≡ q i) → countFrom b e p ≡ countFrom b e q
 unfolding countFrom
 count-cong b e p q f =
-    below-count e (λ i. leb b i && p i) (λ i. leb b i && q i)
+    count-below-cong e (λ i. leb b i && p i) (λ i. leb b i && q i)
     (λ i h. and-cong (leb b i) (p i) (q i) (λ l. f i (leb-true b i l) h))
+
+-- the lowest cycle first
+pub count-first : (n : ℕ) (p : ℕ → Bool) → countBelow (suc n) p ≡ cond (p 0) 1 0 + countBelow n (λ i. p (suc i))
+unfolding countBelow
+count-first zero p = omega arith
+count-first (suc n) p = let h = count-first n p in omega arith
+
+-- cycles past the last that passes count for nothing
+pub count-past : (m n : ℕ) (p : ℕ → Bool) → n ≤ m → ((i : ℕ) → n ≤ i → p i ≡ false) → countBelow m p ≡ countBelow n p
+unfolding countBelow
+count-past zero zero p l f = refl
+count-past zero (suc n) p l f = absurd (not-suc-le-zero l)
+count-past (suc m) n p l f =
+    elim (eq-or-lt-of-le l) [
+      | inl e ↦ ap (λ (k : ℕ). countBelow k p) (sym e)
+      | inr d ↦ (
+          let rest : countBelow m p ≡ countBelow n p = count-past m n p (le-of-suc-le-suc d) f in
+          let none : _≡_ {A = ℕ} (cond (p m) 1 0) 0 = ap (λ (x : Bool). cond x 1 0) (f m (le-of-suc-le-suc d)) in
+          omega arith)
+    ]
+
+-- the length of an interval counts its cycles but the last
+pub count-all : (b e : ℕ) (p : ℕ → Bool) → ((i : ℕ) → i < e → p i ≡ true) → countFrom b e p ≡ e - b
+unfolding countFrom countBelow
+count-all b zero p f = omega arith
+count-all b (suc e) p f =
+    let h = count-all b e p (λ i l. f i (omega arith)) in
+    elim (test (leb b e)) [
+      | inl t ↦ (
+          let l = leb-true b e t in
+          let one : _≡_ {A = ℕ} (cond (leb b e && p e) 1 0) 1 =
+          ap (λ (x : Bool). cond x 1 0) (and-intro (leb b e) (p e) t (f e (omega arith))) in
+          omega arith)
+      | inr t ↦ (
+          let l = leb-false b e t in
+          let none : _≡_ {A = ℕ} (cond (leb b e && p e) 1 0) 0 = ap (λ (x : Bool). cond (x && p e) 1 0) t in
+          omega arith)
+    ]
 
 -- exactly one cycle passes
 pub record One (b e : ℕ) (p : ℕ → Bool) : Type 0 where

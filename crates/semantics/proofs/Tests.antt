@@ -68,3 +68,23 @@ and-true-right false = refl
 pub not-is-false : (a : Bool) → a ≡ true → not a ≡ false
 not-is-false true h = refl
 not-is-false false h = sym h
+
+pub both : {a b : Bool} → a ≡ true → b ≡ true → a && b ≡ true
+both {a} {b} p q = and-intro a b p q
+
+pub and-false : (a : Bool) → a && false ≡ false
+and-false a = and-false-right a false refl
+
+pub and-self : (a : Bool) → a && a ≡ a
+and-self true = refl
+and-self false = refl
+
+pub and-comm : (a b : Bool) → a && b ≡ (b && a)
+and-comm true true = refl
+and-comm true false = refl
+and-comm false true = refl
+and-comm false false = refl
+
+pub not-not : (a : Bool) → not (not a) ≡ a
+not-not true = refl
+not-not false = refl

@@ -1,0 +1,3 @@
+-- Sets of cycles as words.
+pub mod Row
+pub mod Symbols

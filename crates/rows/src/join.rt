@@ -1,0 +1,31 @@
+// Rows joined from rows: chop and star.
+ghost use mathlib.Core.Path.{_≡_};
+ghost use Prim.Native.Nat.{_<_, _≤_};
+ghost use lib.ListN.{length, getD};
+ghost use Rattle.rows.specs.Row.{joined, starred};
+use crate::mask::below;
+use crate::mask::only;
+
+// All rows of `second` that start where an interval of `row` ends: the row of a chop.
+pub fn join(row: u64, second: &[u64]) -> u64
+    requires { ⌜ 64 ≤ length (now second) ⌝ }
+    ensures { λ r. ⌜ r ≡ joined row (λ i. getD (now (second .entry)) i 0) ⌝ }
+{
+    let mut out: u64 = 0;
+    let mut left = row;
+    while left != 0 {
+        let i = u64::trailing_zeros(left) as usize;
+        out |= second[i];
+        left &= left - 1;
+    }
+    out
+}
+
+// Row b of a star, from row b of its formula and the later rows of the star in `stars`.
+pub fn star_row(links: u64, stars: &[u64], b: usize) -> u64
+    requires { ⌜ (b < 64) × (64 ≤ length (now stars)) ⌝ }
+    ensures { λ r. ⌜ r ≡ starred links (λ i. getD (now (stars .entry)) i 0) b ⌝ }
+{
+    let later = links & !below(b + 1);
+    only(b) | join(later, stars)
+}
