@@ -9,7 +9,7 @@ use lib.Bits.{bitAnd, and-le-l}
 use borrow.Author.Tests.{le-leb, lt-leb}
 use Rattle.semantics.specs.Cycles.{someBelow, someFrom, someIn}
 use Rattle.semantics.specs.Proposition.{bit}
-use Rattle.rows.specs.Row.{word, row, holding, least}
+use Rattle.rows.specs.Row.{word, row, holding, shortestOf}
 use Rattle.semantics.proofs.Tests.{same, both, and-left, and-right, and-comm}
 use Rattle.semantics.proofs.Cycles.{below-intro, below-elim, some-intro, some-elim}
 use Rattle.rows.proofs.Bits.{bit-and, bit-nothing}
@@ -45,9 +45,9 @@ inside-row n h b c l =
     word-bit 64 (λ e. (leb b c && leb c e) && bit (row n h b) e) e (omega arith)
     ∙ ap (λ (y : Bool). (leb b c && leb c e) && y) (row-at n h b e (s .low) (s .high)) ∙ s .ok)
 
-pub least-is : (set : ℕ) → set < 2 ^ 64 → bitAnd set (word 64 (λ e. not (someBelow e (bit set)))) ≡ least set
-unfolding least
-least-is set h =
+pub shortest-is : (set : ℕ) → set < 2 ^ 64 → bitAnd set (word 64 (λ e. not (someBelow e (bit set)))) ≡ shortestOf set
+unfolding shortestOf
+shortest-is set h =
     is-word 64 (bitAnd set (word 64 (λ e. not (someBelow e (bit set))))) (λ e. bit set e && not (someBelow e (bit set)))
     (lt-of-le-of-lt (and-le-l set (word 64 (λ e. not (someBelow e (bit set))))) h)
     (λ e m. bit-and set (word 64 (λ e. not (someBelow e (bit set)))) e
@@ -69,8 +69,8 @@ row-some n h b e l =
 
 -- document 01's Ξ: the test holds on [b,e] and on no shorter [b,z]
 pub shortest-row : (n : ℕ) (h : ℕ → ℕ → Bool) (b : ℕ) → n ≤ 64
-    → least (row n h b) ≡ row n (λ b e. h b e && not (someFrom b e (h b))) b
-unfolding least
+    → shortestOf (row n h b) ≡ row n (λ b e. h b e && not (someFrom b e (h b))) b
+unfolding shortestOf
 shortest-row n h b l =
     is-row 64 n (word 64 (λ e. bit (row n h b) e && not (someBelow e (bit (row n h b))))) (λ b e. h b e && not (someFrom b e (h b))) b l
     (word-small 64 (λ e. bit (row n h b) e && not (someBelow e (bit (row n h b)))))

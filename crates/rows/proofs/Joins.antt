@@ -1,8 +1,8 @@
 -- Laws of joins: chop and star by rows.
-use Prim.Native.Nat.{ℕ, zero, suc, _+_, _-_, _^_, _≤_, _<_}
+use Prim.Native.Nat.{ℕ, suc, _+_, _-_, _^_, _≤_, _<_}
 use mathlib.Core.Bool.{Bool, true, not, _&&_, _||_}
 use mathlib.Core.Logic.{inl, inr}
-use mathlib.Core.Path.{_≡_, refl, sym, ap, ap₂, _∙_}
+use mathlib.Core.Path.{_≡_, sym, ap, ap₂, _∙_}
 use native.Mathlib.Numerals.{add-one}
 use native.Mathlib.Omega.{arith}
 use lib.Dec.{leb, ltb, eqb}
@@ -14,7 +14,8 @@ use Rattle.semantics.specs.Proposition.{bit}
 use Rattle.semantics.specs.Formula.{chain}
 use Rattle.rows.specs.Row.{word, row, joined, starred}
 use Rattle.semantics.proofs.Tests.{and-comm, same, test, false-not, is-false, both, and-left, and-right, or-left, or-right, or-elim}
-use Rattle.semantics.proofs.Cycles.{below-intro, below-elim, below-cong, some-intro, some-elim, some-cong}
+use Rattle.semantics.proofs.Cycles.{below-intro, below-elim, below-cong, some-intro, some-elim}
+use Rattle.semantics.proofs.Chains.{chain-step}
 use Rattle.rows.proofs.Bits.{bit-and, bit-or, bit-nothing, same-bits, Lowest, lowest}
 use Rattle.rows.proofs.Masks.{cut-bit}
 use Rattle.rows.proofs.Rows.{word-small, word-bit, is-word, set-intro, set-elim, is-row}
@@ -144,41 +145,6 @@ chop-row n h g words b l f =
     }))
 
 -- ---- star
-
--- no link starts past e
-no-link : (b e : ℕ) (p : ℕ → Bool) → e ≤ b → (eqb b e || someIn (suc b) e p) ≡ eqb b e
-no-link b e p l =
-    same (eqb b e || someIn (suc b) e p) (eqb b e)
-    (λ t. elim (or-elim (eqb b e) (someIn (suc b) e p) t) [
-      | inl a ↦ a
-      | inr a ↦ (
-          let f = some-elim (suc b) (suc e) p a in
-          let x = f .low in
-          let y = f .high in
-          absurd (omega arith))
-    ])
-    (λ t. or-left (eqb b e) (someIn (suc b) e p) t)
-
--- any number of links that is enough is as good as another
-chain-fuel : (m k : ℕ) (h : ℕ → ℕ → Bool) (b e : ℕ) → e ≤ b + m → e ≤ b + k → chain m h b e ≡ chain k h b e
-unfolding chain
-chain-fuel zero zero h b e l r = refl
-chain-fuel zero (suc k) h b e l r = sym (no-link b e (λ i. h b i && chain k h i e) (omega arith))
-chain-fuel (suc m) zero h b e l r = no-link b e (λ i. h b i && chain m h i e) (omega arith)
-chain-fuel (suc m) (suc k) h b e l r =
-    ap (λ (c : Bool). eqb b e || c)
-    (some-cong (suc b) (suc e) (λ i. h b i && chain m h i e) (λ i. h b i && chain k h i e)
-    (λ i x y. ap (λ (c : Bool). h b i && c) (chain-fuel m k h i e (omega arith) (omega arith))))
-
--- a chain is empty, or has a first link
-pub chain-step : (h : ℕ → ℕ → Bool) (b e : ℕ) → b ≤ e
-    → chain (e - b) h b e ≡ (eqb b e || someIn (suc b) e (λ i. h b i && chain (e - i) h i e))
-unfolding chain
-chain-step h b e l =
-    chain-fuel (e - b) (suc (e - b)) h b e (omega arith) (omega arith)
-    ∙ ap (λ (c : Bool). eqb b e || c)
-    (some-cong (suc b) (suc e) (λ i. h b i && chain (e - b) h i e) (λ i. h b i && chain (e - i) h i e)
-    (λ i x y. ap (λ (c : Bool). h b i && c) (chain-fuel (e - b) (e - i) h i e (omega arith) (omega arith))))
 
 -- document 01's star, as a test on intervals
 abbrev pub starOf : (ℕ → ℕ → Bool) → ℕ → ℕ → Bool

@@ -1,4 +1,4 @@
--- Laws of bits and of rows; the crates above cite them.
+-- Laws that the proofs here and the crates above cite, from tests to the rows of each formula.
 pub mod Bits
 pub mod Rows
 pub mod Masks
@@ -7,3 +7,5 @@ pub mod Shapes
 pub mod Gaps
 pub mod Counts
 pub mod Cuts
+pub mod Columns
+pub mod Formulas

@@ -35,5 +35,5 @@ unfoldable pub holding : ℕ → ℕ → ℕ → ℕ
 holding set b c = word 64 (λ e. (leb b c && leb c e) && bit set e)
 
 -- the least cycle of a set alone
-unfoldable pub least : ℕ → ℕ
-least set = word 64 (λ e. bit set e && not (someBelow e (bit set)))
+unfoldable pub shortestOf : ℕ → ℕ
+shortestOf set = word 64 (λ e. bit set e && not (someBelow e (bit set)))

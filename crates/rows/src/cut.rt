@@ -4,7 +4,7 @@ ghost use mathlib.Core.Bool.{not};
 ghost use Prim.Native.Nat.{suc, _<_};
 ghost use Rattle.semantics.specs.Cycles.{someBelow};
 ghost use Rattle.semantics.specs.Proposition.{bit};
-ghost use Rattle.rows.specs.Row.{holding, least};
+ghost use Rattle.rows.specs.Row.{holding, shortestOf};
 use crate::mask::before_first;
 use crate::mask::below;
 use crate::mask::has;
@@ -19,7 +19,7 @@ pub fn inside(row: u64, b: usize, cycle: usize) -> u64
 
 // The shortest interval of a row alone.
 pub fn shortest(row: u64) -> u64
-    ensures { λ r. ⌜ r ≡ least row ⌝ }
+    ensures { λ r. ⌜ r ≡ shortestOf row ⌝ }
 {
     row & up_to_first(row)
 }

@@ -11,11 +11,11 @@ use crate::mask::below;
 use crate::mask::cycles_from;
 use crate::mask::up_to;
 
-// The distances from `fewest` to `most`.
-fn window(fewest: usize, most: usize) -> u64
-    ensures { λ r. ⌜ r ≡ word 64 (λ d. leb fewest d && leb d most) ⌝ }
+// The distances from `least` to `most`.
+fn window(least: usize, most: usize) -> u64
+    ensures { λ r. ⌜ r ≡ word 64 (λ d. leb least d && leb d most) ⌝ }
 {
-    up_to(most) & !below(fewest)
+    up_to(most) & !below(least)
 }
 
 // The cycles at one of the given distances after a cycle of the set.
@@ -32,12 +32,12 @@ fn spread(set: u64, distances: u64) -> u64
     out
 }
 
-// Cycles x ≤ y of the interval, x in the first column, y in the second, and y - x from `fewest` to `most`.
-pub fn gap(first: u64, second: u64, fewest: usize, most: usize, b: usize, n: usize) -> u64
+// Cycles x ≤ y of the interval, x in the first column, y in the second, and y - x from `least` to `most`.
+pub fn gap(first: u64, second: u64, least: usize, most: usize, b: usize, n: usize) -> u64
     requires { ⌜ (b < n) × (n ≤ 64) ⌝ }
-    ensures { λ r. ⌜ r ≡ row n (λ b e. someIn b e (λ x. bit first x && someIn x e (λ y. bit second y && (leb fewest (y - x) && leb (y - x) most)))) b ⌝ }
+    ensures { λ r. ⌜ r ≡ row n (λ b e. someIn b e (λ x. bit first x && someIn x e (λ y. bit second y && (leb least (y - x) && leb (y - x) most)))) b ⌝ }
 {
     let starts = first & !below(b);
-    let ends = second & spread(starts, window(fewest, most));
+    let ends = second & spread(starts, window(least, most));
     cycles_from(b, n) & !before_first(ends)
 }

@@ -2,6 +2,7 @@
 pub mod Tests
 pub mod Names
 pub mod Cycles
+pub mod Chains
 pub mod Examples
 pub mod Locality
 pub mod Placement

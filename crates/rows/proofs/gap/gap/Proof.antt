@@ -34,7 +34,7 @@ returns c =
     ∙ ap (λ (x : ℕ). word 64 (λ e. not (someBelow (suc e) (bit (bitAnd (a .second) x)))))
     (c .before .before .spread .ensures
     ∙ ap₂ (λ (x y : ℕ). joined (bitAnd (a .first) (2 ^ 64 - 1 - x)) (shifted y)) (c .before .before .before .before .below .ensures) (c .before .before .before .window .ensures)))
-    ∙ gap-is (a .first) (a .second) (a .fewest) (a .most) (a .b) (a .n) (c .before .before .before .before .before .pre .1)
+    ∙ gap-is (a .first) (a .second) (a .least) (a .most) (a .b) (a .n) (c .before .before .before .before .before .pre .1)
 
 pub gap-spec : {M : Type 1} → statement M
 gap-spec =

@@ -16,7 +16,7 @@ below-requires c κs = search needs
 returns : tie.Need-returns
 returns c =
     ap₂ (λ (x y : ℕ). bitAnd x (2 ^ 64 - 1 - y)) (c .before .up-to .ensures) (c .below .ensures)
-    ∙ window-is (c .before .before .args .fewest) (c .before .before .args .most)
+    ∙ window-is (c .before .before .args .least) (c .before .before .args .most)
 
 pub window-spec : {M : Type 1} → statement M
 window-spec = tie.close (tie.spec up-to-requires below-requires returns)
