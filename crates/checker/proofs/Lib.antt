@@ -1,0 +1,4 @@
+pub mod Outside
+pub mod Places
+pub mod Found
+pub mod Searching

@@ -1,0 +1,2 @@
+// The check and its verdict; the table.
+pub mod search;
