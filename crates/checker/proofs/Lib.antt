@@ -2,3 +2,5 @@ pub mod Outside
 pub mod Places
 pub mod Found
 pub mod Searching
+pub mod Gathered
+pub mod Loops

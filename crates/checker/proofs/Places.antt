@@ -98,6 +98,19 @@ numbered-false n p x f =
     let v = numbered-elim n p x q in
     false-not (p (x / 4096) (x / 64 % 64) (x % 64)) (f (v .i-below) (v .j-below) (v .k-below)) (v .ok))
 
+pub numbered-same : (n : ℕ) (p q : ℕ → ℕ → ℕ → Bool) (x : ℕ)
+    → (x / 4096 < n → x / 64 % 64 < n → x % 64 < n → p (x / 4096) (x / 64 % 64) (x % 64) ≡ q (x / 4096) (x / 64 % 64) (x % 64))
+    → numbered n p x ≡ numbered n q x
+unfolding numbered
+numbered-same n p q x f = go (ltb (x / 4096) n) (ltb (x / 64 % 64) n) (ltb (x % 64) n) refl refl refl
+  where
+    go : (a b c : Bool) → ltb (x / 4096) n ≡ a → ltb (x / 64 % 64) n ≡ b → ltb (x % 64) n ≡ c
+        → a && (b && c) && p (x / 4096) (x / 64 % 64) (x % 64) ≡ (a && (b && c) && q (x / 4096) (x / 64 % 64) (x % 64))
+    go true true true d e g = f (ltb-true (x / 4096) n d) (ltb-true (x / 64 % 64) n e) (ltb-true (x % 64) n g)
+    go true true false d e g = refl
+    go true false c d e g = refl
+    go false b c d e g = refl
+
 -- the first place by i, then j, then k has the least number
 pub first-is-least : (n : ℕ) (p : ℕ → ℕ → ℕ → Bool) (i j k : ℕ) → n ≤ 64 → FirstPlace n p i j k → IsLeast (numbered n p) (number i j k)
 first-is-least n p i j k h w =

@@ -1,3 +1,6 @@
+pub mod Temp
 pub mod Search
 pub mod Places
 pub mod Rows
+pub mod Gather
+pub mod Loops

@@ -1,2 +1,3 @@
 // The check and its verdict; the table.
+pub mod gather;
 pub mod search;

@@ -1,0 +1,27 @@
+-- The three arrays of rows for one placement, gathered from the tables.
+use Prim.Native.Nat.{ℕ, _≤_, _<_}
+use mathlib.Core.Bool.{Bool, true, false, cond, _&&_, _||_}
+use mathlib.Core.List.{List}
+use mathlib.Core.Path.{_≡_}
+use Rattle.semantics.specs.Proposition.{bit}
+use Rattle.rows.specs.Row.{holding, shortestOf}
+use Rattle.checker.specs.Temp.{standing, rowAt}
+use Rattle.checker.specs.Search.{inside}
+use Rattle.checker.specs.Rows.{testOf}
+
+-- row b, with the intervals kept that hold cycle p, if the name counts
+unfoldable pub narrow : Bool → ℕ → ℕ → ℕ → ℕ
+narrow counts row b p = cond counts (holding row b p) row
+
+-- row b, or its shortest interval alone
+unfoldable pub cutTo : Bool → ℕ → ℕ
+cutTo short row = cond short (shortestOf row) row
+
+-- row b of a node, cut if asked, with the intervals kept that hold the cycles of the names in the mask
+unfoldable pub gathered : List ℕ → ℕ → ℕ → Bool → ℕ → ℕ → ℕ → ℕ → ℕ → Bool
+gathered words root names short p0 p1 p2 b e =
+    inside (bit names) b e (standing p0 p1 p2) && bit (cutTo short (rowAt words root b)) e
+
+-- the rows have gained the intervals of q, as far as the first n cycles
+pub record Adds (n : ℕ) (before after : List ℕ) (q : ℕ → ℕ → Bool) : Type 0 where
+  pub adds : (b e : ℕ) → b ≤ e → e < n → testOf after b e ≡ (testOf before b e || q b e)

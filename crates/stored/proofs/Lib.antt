@@ -1,0 +1,10 @@
+-- Laws of the definitions in specs/, for this crate and the crates above.
+pub mod Rules
+pub mod Made
+pub mod Tree
+pub mod Reach
+pub mod Accepted
+pub mod Answer
+pub mod Both
+pub mod Written
+pub mod Emitted

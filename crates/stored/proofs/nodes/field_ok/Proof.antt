@@ -1,0 +1,11 @@
+use Rattle.stored.proofs.nodes.field_ok.Statement.{statement}
+use Rattle.stored.proofs.nodes.field_ok.Tie as tie
+use mathlib.Core.Path.{_≡_, refl, sym, _∙_, ap}
+use Rattle.stored.specs.Node.{fieldRight}
+
+returns : tie.Need-returns
+unfolding fieldRight
+returns c = refl
+
+pub field-ok-spec : {M : Type 1} → statement M
+field-ok-spec = tie.close (tie.spec returns)

@@ -1,0 +1,21 @@
+use native.Mathlib.Omega.{arith}
+use Rattle.stored.proofs.trace.cycle_at.Statement.{statement}
+use Rattle.stored.proofs.trace.cycle_at.Tie as tie
+use mathlib.Core.Path.{_≡_, refl, sym, _∙_, ap}
+use Rattle.stored.specs.Trace.{cycleAt}
+
+mul-word : tie.Need-mul-word
+mul-word c = omega arith
+
+add-word : tie.Need-add-word
+add-word c = omega arith
+
+word-requires : tie.Need-word-requires
+word-requires c κs = omega arith
+
+returns : tie.Need-returns
+unfolding cycleAt
+returns c = (c .word .ensures .0, c .word .ensures .1)
+
+pub cycle-at-spec : {M : Type 1} → statement M
+cycle-at-spec = tie.close (tie.spec mul-word add-word word-requires returns)

@@ -1,0 +1,53 @@
+// Stored sheets and traces: which bytes are one, by which number the others are refused, and what an accepted sheet says.
+pub mod bytes;
+pub mod clauses;
+pub mod input;
+pub mod masks;
+pub mod nodes;
+pub mod sheet;
+pub mod trace;
+pub mod writer;
+
+// A node's four fields.
+pub struct Node {
+    pub op: usize,
+    pub q: usize,
+    pub a: usize,
+    pub b: usize,
+}
+
+// A clause's eight fields.
+pub struct StoredClause {
+    pub kind: usize,
+    pub role: usize,
+    pub root1: usize,
+    pub root2: usize,
+    pub root3: usize,
+    pub mask1: usize,
+    pub mask2: usize,
+    pub mask3: usize,
+}
+
+// The counts of a sheet.
+pub struct Header {
+    pub signals: usize,
+    pub names: usize,
+    pub nodes: usize,
+    pub clauses: usize,
+}
+
+pub enum SheetAnswer {
+    Accepted(Header),
+    Refused(usize),
+}
+
+pub enum TraceAnswer {
+    Cycles(usize),
+    Refused(usize),
+}
+
+// A sheet and a trace that are both accepted, with the sheet's header and the number of cycles; or the lowest refusal.
+pub enum InputAnswer {
+    Both(Header, usize),
+    Refused(usize),
+}

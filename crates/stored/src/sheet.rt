@@ -1,0 +1,101 @@
+// A sheet: its frame, its counts, and the order of its refusals.
+use crate::Header;
+use crate::SheetAnswer;
+use crate::bytes;
+use crate::clauses;
+use crate::nodes;
+ghost use mathlib.Core.Path.{_≡_};
+ghost use Prim.Native.Nat.{_≤_};
+ghost use lib.ListN.{length};
+ghost use Rattle.stored.specs.Sheet.{headerOf, framed, counted, sheetAnswer, sheetNumber};
+
+fn is_framed(sheet: &[u8]) -> bool
+    ensures { λ r. ⌜ r ≡ framed (now (sheet .entry)) ⌝ }
+{
+    if sheet.len() < 9 {
+        return false;
+    }
+    bytes::word(sheet, 0) == sheet.len() - 2
+}
+
+fn header(sheet: &[u8]) -> Header
+    requires { ⌜ 9 ≤ length (now sheet) ⌝ }
+    ensures { λ r. ⌜ r ≡ headerOf (now (sheet .entry)) ⌝ }
+{
+    let signals = bytes::byte(sheet, 4);
+    let names = bytes::byte(sheet, 5);
+    let nodes = bytes::word(sheet, 6);
+    let clauses = bytes::byte(sheet, 8);
+    Header {
+        signals,
+        names,
+        nodes,
+        clauses,
+    }
+}
+
+fn counts_ok(h: Header) -> bool
+    ensures { λ r. ⌜ r ≡ counted h ⌝ }
+{
+    let s = h.signals;
+    let m = h.names;
+    let n = h.nodes;
+    let c = h.clauses;
+    let signals = (1 <= s) & (s <= 16);
+    let names = m <= 3;
+    let nodes = (1 <= n) & (n <= 64);
+    let clauses = (1 <= c) & (c <= 8);
+    signals & (names & (nodes & clauses))
+}
+
+// The header of a sheet, or the lowest number from 1 to 9 that applies to it.
+pub fn read_sheet(sheet: &[u8]) -> SheetAnswer
+    ensures { λ r. ⌜ r ≡ sheetAnswer (now (sheet .entry)) ⌝ }
+{
+    if !is_framed(sheet) {
+        return SheetAnswer::Refused(1);
+    }
+    if bytes::byte(sheet, 2) != 1 {
+        return SheetAnswer::Refused(2);
+    }
+    if bytes::byte(sheet, 3) != 1 {
+        return SheetAnswer::Refused(3);
+    }
+    let h = header(sheet);
+    if !counts_ok(h) {
+        return SheetAnswer::Refused(4);
+    }
+    let m = h.names;
+    let n = h.nodes;
+    let c = h.clauses;
+    let middle = 9 + 6 * n;
+    let end = middle + 11 * c;
+    if sheet.len() != end {
+        return SheetAnswer::Refused(5);
+    }
+    let node_part = &sheet[9..middle];
+    let clause_part = &sheet[middle..end];
+    if !nodes::nodes_ok(node_part, n, h.signals, m) {
+        return SheetAnswer::Refused(6);
+    }
+    if !nodes::operands_ok(node_part, n) {
+        return SheetAnswer::Refused(7);
+    }
+    if !clauses::clauses_ok(node_part, n, clause_part, c) {
+        return SheetAnswer::Refused(8);
+    }
+    if !clauses::clauses_covered(node_part, n, m, clause_part, c) {
+        return SheetAnswer::Refused(9);
+    }
+    SheetAnswer::Accepted(h)
+}
+
+// An answer's number, 0 for an accepted sheet.
+pub fn sheet_number(answer: SheetAnswer) -> usize
+    ensures { λ r. ⌜ r ≡ sheetNumber answer ⌝ }
+{
+    match answer {
+        SheetAnswer::Accepted(_) => 0,
+        SheetAnswer::Refused(number) => number,
+    }
+}
