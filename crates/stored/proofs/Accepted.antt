@@ -113,6 +113,18 @@ answer-accepted s h e = go (eqb (sheetRefusal s) 0) refl e
 pub open-answer : (s : List ℕ) (h : Header) → sheetAnswer s ≡ Accepted h → Opened s
 open-answer s h e = opened s (answer-accepted s h e .0)
 
+-- the sizes of an accepted sheet, by its answer's header
+pub record Sizes (s : List ℕ) (h : Header) : Type 0 where
+  pub nodes-most : h .nodes ≤ 64
+  pub clauses-most : h .clauses ≤ 8
+  pub ends : length s ≡ 9 + 6 * h .nodes + 11 * h .clauses
+
+pub sizes : (s : List ℕ) (h : Header) → sheetAnswer s ≡ Accepted h → Sizes s h
+sizes s h e =
+    let o = open-answer s h e in
+    subst (Sizes s) (answer-accepted s h e .1)
+    (record { nodes-most = o .in-range .few-nodes; clauses-most = o .in-range .few-clauses; ends = o .long })
+
 -- the parts handed to the functions over them
 pub length-nodes : (s : List ℕ) → Opened s → length (nodePart s) ≡ 6 * headerOf s .nodes
 unfolding nodePart clausesStart

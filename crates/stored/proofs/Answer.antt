@@ -15,7 +15,7 @@ use Rattle.stored.specs.declared.SheetAnswer.{SheetAnswer}
 use Rattle.stored.specs.declared.SheetAnswer.the-variants.{Accepted, Refused}
 use Rattle.stored.specs.declared.TraceAnswer.{TraceAnswer}
 use Rattle.stored.specs.declared.TraceAnswer.the-variants.{Cycles}
-use Rattle.stored.specs.Bytes.{word, everyBelow, lowest}
+use Rattle.stored.specs.Bytes.{framedFrom, everyBelow, lowest}
 use Rattle.stored.specs.Node.{requirementSorts, isFormulaNode, nodeRight, operandsRight}
 use Rattle.stored.specs.Tree.{pick, formulaAt}
 use Rattle.stored.specs.Reach.{joint, reachAt, covers, reachTable, entryOf}
@@ -39,6 +39,10 @@ pub record Sized (s : List ℕ) : Type 0 where
   pub frame : Framed s
   pub rule4 : counted (headerOf s) ≡ true
   pub rule5 : sized s ≡ true
+
+framed-from : (least : ℕ) (s : List ℕ) → framedFrom least s ≡ true → least ≤ length s
+unfolding framedFrom
+framed-from least s e = leb-true least (length s) (and-left (leb least (length s)) _ e)
 
 module _ (s : List ℕ) where
   pub refused1 : framed s ≡ false → Refused 1 ≡ sheetAnswer s
@@ -83,7 +87,7 @@ module _ (s : List ℕ) where
 
   pub framed-long : framed s ≡ true → 9 ≤ length s
   unfolding framed
-  framed-long e = leb-true 9 (length s) (and-left (leb 9 (length s)) _ e)
+  framed-long e = framed-from 9 s e
 
 -- rule 9 at a part that rule 8 takes
 part-covered : (s m n : ℕ) (x : ℕ → Node) → NodesKept s m n x → n ≤ 64 → (used : Bool) (root mask : ℕ) → partRight x n used root mask ≡ true → partCovered (reachTable x n) m used root mask ≡ partNamed x m used root mask
@@ -160,4 +164,4 @@ module _ (s : ℕ) (t : List ℕ) where
 
   pub trace-framed-long : traceFramed t ≡ true → 4 ≤ length t
   unfolding traceFramed
-  trace-framed-long e = leb-true 4 (length t) (and-left (leb 4 (length t)) _ e)
+  trace-framed-long e = framed-from 4 t e

@@ -8,3 +8,4 @@ pub mod Answer
 pub mod Both
 pub mod Written
 pub mod Emitted
+pub mod Examples

@@ -15,7 +15,7 @@ use Rattle.stored.specs.declared.Header.{Header}
 use Rattle.stored.specs.Bytes.{word}
 use Rattle.stored.specs.Node.{nodeAt}
 use Rattle.stored.specs.Sheet.{headerOf, nodesStart, clausesStart, nodePart, nodesOf}
-use Rattle.stored.specs.Written.{nodeBytes, putNode, emittedHeader, putHeader, nodeIn}
+use Rattle.stored.specs.Written.{emittedLength, nodeBytes, putNode, emittedHeader, putHeader, nodeIn}
 use Rattle.semantics.proofs.Tests.{test}
 
 -- bytes put at p: the others stay
@@ -55,10 +55,6 @@ word-of : (l : List ℕ) (k v : ℕ) → getD l k 0 ≡ v / 256 → getD l (k + 
 unfolding word
 word-of l k v e f = rw (e, f) (halves v)
 
-word-same : (l l′ : List ℕ) (k : ℕ) → getD l k 0 ≡ getD l′ k 0 → getD l (k + 1) 0 ≡ getD l′ (k + 1) 0 → word l k ≡ word l′ k
-unfolding word
-word-same l l′ k e f = rw (e, f)
-
 node-is : (l : List ℕ) (i : ℕ) (x : Node) → getD l (6 * i) 0 ≡ x .op → getD l (6 * i + 1) 0 ≡ x .q → word l (6 * i + 2) ≡ x .a → word l (6 * i + 4) ≡ x .b → nodeAt l i ≡ x
 unfolding nodeAt
 node-is l i x e f g h = rw (e, f, g, h)
@@ -87,15 +83,15 @@ module _ (s : List ℕ) (i : ℕ) (x : Node) where
   put-length = length-sets s (9 + 6 * i) (nodeBytes x)
 
   -- the bytes before and after it
-  pub put-front : (n : ℕ) → n ≤ 9 + 6 * i → take n (putNode s i x) ≡ take n s
+  pub put-front : (n : ℕ) → n ≤ emittedLength i → take n (putNode s i x) ≡ take n s
   unfolding putNode
   put-front n h = take-before s (9 + 6 * i) (nodeBytes x) n h
 
-  pub put-back : (n : ℕ) → 15 + 6 * i ≤ n → drop n (putNode s i x) ≡ drop n s
+  pub put-back : (n : ℕ) → emittedLength (i + 1) ≤ n → drop n (putNode s i x) ≡ drop n s
   unfolding putNode nodeBytes
   put-back n h = drop-after s (9 + 6 * i) (nodeBytes x) n (omega arith)
 
-  byte-put : 15 + 6 * i ≤ length s → (k : ℕ) → k < 6 → getD (drop 9 (putNode s i x)) (6 * i + k) 0 ≡ getD (nodeBytes x) k 0
+  byte-put : emittedLength (i + 1) ≤ length s → (k : ℕ) → k < 6 → getD (drop 9 (putNode s i x)) (6 * i + k) 0 ≡ getD (nodeBytes x) k 0
   unfolding putNode nodeBytes
   byte-put fits k h =
       let place : 9 + (6 * i + k) ≡ 9 + 6 * i + k = omega arith in
@@ -103,7 +99,7 @@ module _ (s : List ℕ) (i : ℕ) (x : Node) where
       ∙ rw place (getD-put s (9 + 6 * i) (nodeBytes x) k (omega arith) h)
 
   -- the node is read back
-  pub put-read : 15 + 6 * i ≤ length s → nodeIn (putNode s i x) i ≡ x
+  pub put-read : emittedLength (i + 1) ≤ length s → nodeIn (putNode s i x) i ≡ x
   unfolding nodeIn nodeBytes
   put-read fits =
       let l = drop 9 (putNode s i x) in
@@ -189,7 +185,7 @@ taken-byte n s k h = getD-take n s k 0 h
 pub taken-header : (n : ℕ) (s : List ℕ) → 9 ≤ n → headerOf (take n s) ≡ headerOf s
 taken-header n s h = header-same (take n s) s (λ k l. getD-take n s k 0 (omega arith))
 
-pub taken-node : (n : ℕ) (s : List ℕ) (i : ℕ) → 15 + 6 * i ≤ n → nodeIn (take n s) i ≡ nodeIn s i
+pub taken-node : (n : ℕ) (s : List ℕ) (i : ℕ) → emittedLength (i + 1) ≤ n → nodeIn (take n s) i ≡ nodeIn s i
 unfolding nodeIn
 taken-node n s i h =
     node-same (drop 9 (take n s)) (drop 9 s) i

@@ -2,11 +2,16 @@
 use Prim.Native.Nat.{ℕ, zero, suc, _+_, _-_, _*_}
 use mathlib.Core.Bool.{Bool, true, false, cond, _&&_}
 use mathlib.Core.List.{List, [], _∷_}
-use lib.ListN.{getD, take, drop}
+use lib.Dec.{leb, eqb}
+use lib.ListN.{length, getD, take, drop}
 
 -- the big-endian field of two bytes at k
 unfoldable pub word : List ℕ → ℕ → ℕ
 word s k = getD s k 0 * 256 + getD s (k + 1) 0
+
+-- it has `least` bytes or more, and bytes 0–1 are its length less 2
+unfoldable pub framedFrom : ℕ → List ℕ → Bool
+framedFrom least s = leb least (length s) && eqb (word s 0) (length s - 2)
 
 -- the bytes from a up to but without e
 abbrev pub part : ℕ → ℕ → List ℕ → List ℕ

@@ -1,5 +1,5 @@
 -- Document 01, "The stored sheet" and refusals 1 to 9. Only this file knows where the node and clause areas start.
-use Prim.Native.Nat.{ℕ, _+_, _-_, _*_}
+use Prim.Native.Nat.{ℕ, _+_, _*_}
 use mathlib.Core.Bool.{Bool, true, false, _&&_}
 use mathlib.Core.List.{List, [], _∷_}
 use lib.Dec.{leb, eqb}
@@ -12,7 +12,7 @@ use Rattle.stored.specs.declared.StoredClause.{StoredClause}
 use Rattle.stored.specs.declared.Header.{Header}
 use Rattle.stored.specs.declared.SheetAnswer.{SheetAnswer}
 use Rattle.stored.specs.declared.SheetAnswer.the-variants.{Accepted, Refused}
-use Rattle.stored.specs.Bytes.{word, part, everyBelow, inOrder, lowest}
+use Rattle.stored.specs.Bytes.{word, framedFrom, part, everyBelow, inOrder, lowest}
 use Rattle.stored.specs.Node.{nodeAt, requirementSorts, nodeRight, operandsRight}
 use Rattle.stored.specs.Tree.{pick}
 use Rattle.stored.specs.Clause.{storedAt, clauseRightAt, clauseNamedAt, clauseOf}
@@ -44,7 +44,7 @@ storedOf s = storedAt (clausePart s)
 
 -- 1. It has 9 bytes or more, and bytes 0–1 are its length less 2.
 unfoldable pub framed : List ℕ → Bool
-framed s = leb 9 (length s) && eqb (word s 0) (length s - 2)
+framed s = framedFrom 9 s
 
 -- 2. Its version is 1.
 unfoldable pub versioned : List ℕ → Bool

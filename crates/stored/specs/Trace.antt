@@ -7,7 +7,7 @@ use lib.ListN.{length, getD}
 use Rattle.semantics.specs.Proposition.{Trace}
 use Rattle.stored.specs.declared.TraceAnswer.{TraceAnswer}
 use Rattle.stored.specs.declared.TraceAnswer.the-variants.{Cycles, Refused}
-use Rattle.stored.specs.Bytes.{word, everyBelow, inOrder, lowest}
+use Rattle.stored.specs.Bytes.{word, framedFrom, everyBelow, inOrder, lowest}
 use Rattle.stored.specs.Tree.{pick}
 
 -- a two-byte word a cycle from byte 4 on
@@ -19,7 +19,7 @@ cycleAt t i = word t (2 * i + 4)
 
 -- 10. It has 4 bytes or more, and bytes 0–1 are its length less 2.
 unfoldable pub traceFramed : List ℕ → Bool
-traceFramed t = leb 4 (length t) && eqb (word t 0) (length t - 2)
+traceFramed t = framedFrom 4 t
 
 -- 11. Its version is 1.
 unfoldable pub traceVersioned : List ℕ → Bool

@@ -7,11 +7,15 @@ use Rattle.stored.specs.declared.Node.{Node}
 use Rattle.stored.specs.Node.{nodeAt}
 use Rattle.stored.specs.Sheet.{nodesStart}
 
+-- how long a kind 2 sheet of n nodes is
+abbrev pub emittedLength : ℕ → ℕ
+emittedLength n = nodesStart + 6 * n
+
 unfoldable pub nodeBytes : Node → List ℕ
 nodeBytes x = x .op ∷ x .q ∷ x .a / 256 ∷ x .a % 256 ∷ x .b / 256 ∷ x .b % 256 ∷ []
 
 unfoldable pub putNode : List ℕ → ℕ → Node → List ℕ
-putNode s i x = sets s (nodesStart + 6 * i) (nodeBytes x)
+putNode s i x = sets s (emittedLength i) (nodeBytes x)
 
 -- s signals, m names, n nodes and no clause; bytes 0–1 are the length 9 + 6n less 2
 unfoldable pub emittedHeader : ℕ → ℕ → ℕ → List ℕ
@@ -26,7 +30,7 @@ unfoldable pub nodeIn : List ℕ → ℕ → Node
 nodeIn s i = nodeAt (drop nodesStart s) i
 
 -- fields that fit their bytes
-pub record Fits (x : Node) : Type 0 where
+pub record NodeFits (x : Node) : Type 0 where
   pub op-fits : x .op < 256
   pub q-fits : x .q < 256
   pub a-fits : x .a < 65536

@@ -7,16 +7,7 @@ use crate::nodes;
 ghost use mathlib.Core.Path.{_≡_};
 ghost use Prim.Native.Nat.{_≤_};
 ghost use lib.ListN.{length};
-ghost use Rattle.stored.specs.Sheet.{headerOf, framed, counted, sheetAnswer, sheetNumber};
-
-fn is_framed(sheet: &[u8]) -> bool
-    ensures { λ r. ⌜ r ≡ framed (now (sheet .entry)) ⌝ }
-{
-    if sheet.len() < 9 {
-        return false;
-    }
-    bytes::word(sheet, 0) == sheet.len() - 2
-}
+ghost use Rattle.stored.specs.Sheet.{headerOf, nodePart, clausePart, counted, sheetAnswer, sheetNumber};
 
 fn header(sheet: &[u8]) -> Header
     requires { ⌜ 9 ≤ length (now sheet) ⌝ }
@@ -52,7 +43,7 @@ fn counts_ok(h: Header) -> bool
 pub fn read_sheet(sheet: &[u8]) -> SheetAnswer
     ensures { λ r. ⌜ r ≡ sheetAnswer (now (sheet .entry)) ⌝ }
 {
-    if !is_framed(sheet) {
+    if !bytes::is_framed(sheet, 9) {
         return SheetAnswer::Refused(1);
     }
     if bytes::byte(sheet, 2) != 1 {
@@ -88,6 +79,25 @@ pub fn read_sheet(sheet: &[u8]) -> SheetAnswer
         return SheetAnswer::Refused(9);
     }
     SheetAnswer::Accepted(h)
+}
+
+// The node part of an accepted sheet.
+pub fn node_part(sheet: &[u8], h: Header) -> &[u8]
+    requires { ⌜ sheetAnswer (now sheet) ≡ SheetAnswer.Accepted h ⌝ }
+    ensures { λ r. ⌜ now r ≡ nodePart (now (sheet .entry)) ⌝ }
+{
+    let end = 9 + 6 * h.nodes;
+    &sheet[9..end]
+}
+
+// The clause part of an accepted sheet.
+pub fn clause_part(sheet: &[u8], h: Header) -> &[u8]
+    requires { ⌜ sheetAnswer (now sheet) ≡ SheetAnswer.Accepted h ⌝ }
+    ensures { λ r. ⌜ now r ≡ clausePart (now (sheet .entry)) ⌝ }
+{
+    let start = 9 + 6 * h.nodes;
+    let end = start + 11 * h.clauses;
+    &sheet[start..end]
 }
 
 // An answer's number, 0 for an accepted sheet.

@@ -6,16 +6,7 @@ ghost use Prim.Native.Nat.{_+_, _*_, _≤_, _<_, _^_};
 ghost use lib.Dec.{ltb};
 ghost use lib.ListN.{length};
 ghost use Rattle.stored.specs.Bytes.{everyBelow};
-ghost use Rattle.stored.specs.Trace.{cycleAt, traceFramed, cycleRight, traceAnswer, traceNumber};
-
-fn is_framed(trace: &[u8]) -> bool
-    ensures { λ r. ⌜ r ≡ traceFramed (now (trace .entry)) ⌝ }
-{
-    if trace.len() < 4 {
-        return false;
-    }
-    bytes::word(trace, 0) == trace.len() - 2
-}
+ghost use Rattle.stored.specs.Trace.{cycleAt, cycleRight, traceAnswer, traceNumber};
 
 // No bit from s up is set.
 fn is_below(w: usize, s: usize) -> bool
@@ -55,7 +46,7 @@ fn cycles_ok(trace: &[u8], n: usize, s: usize) -> bool
 pub fn read_trace(trace: &[u8], s: usize) -> TraceAnswer
     ensures { λ r. ⌜ r ≡ traceAnswer s (now (trace .entry)) ⌝ }
 {
-    if !is_framed(trace) {
+    if !bytes::is_framed(trace, 4) {
         return TraceAnswer::Refused(10);
     }
     if bytes::byte(trace, 2) != 1 {

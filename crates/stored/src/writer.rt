@@ -1,9 +1,11 @@
 // Writes one node, and the header of a kind 2 sheet, into lent bytes.
 use crate::Node;
+use crate::bytes;
 ghost use mathlib.Core.Path.{_≡_};
 ghost use Prim.Native.Nat.{_+_, _*_, _/_, _%_, _≤_, _<_};
 ghost use lib.ListN.{length};
-ghost use Rattle.stored.specs.Written.{Fits, putNode, putHeader};
+ghost use Rattle.stored.specs.Sheet.{headerOf};
+ghost use Rattle.stored.specs.Written.{NodeFits, emittedLength, putNode, putHeader};
 
 fn high(v: usize) -> u8
     requires { ⌜ v < 65536 ⌝ }
@@ -19,7 +21,7 @@ fn low(v: usize) -> u8
 }
 
 pub fn put_node(out: &mut [u8], i: usize, x: Node)
-    requires { ⌜ (15 + 6 * i ≤ length (now out)) × Fits x ⌝ }
+    requires { ⌜ (emittedLength (i + 1) ≤ length (now out)) × NodeFits x ⌝ }
     ensures { λ _. ⌜ now (out .exit) ≡ putNode (now (out .entry)) i x ⌝ }
 {
     let at = 9 + 6 * i;
@@ -31,6 +33,14 @@ pub fn put_node(out: &mut [u8], i: usize, x: Node)
     out[at + 3] = low(a);
     out[at + 4] = high(b);
     out[at + 5] = low(b);
+}
+
+// How long a kind 2 sheet of n nodes is.
+pub fn emitted_length(n: usize) -> usize
+    requires { ⌜ n < 65536 ⌝ }
+    ensures { λ r. ⌜ r ≡ emittedLength n ⌝ }
+{
+    9 + 6 * n
 }
 
 // The header of a kind 2 sheet with s signals, m names and n nodes.
@@ -48,4 +58,12 @@ pub fn put_header(out: &mut [u8], s: usize, m: usize, n: usize)
     out[6] = high(n);
     out[7] = low(n);
     out[8] = 0;
+}
+
+// How many nodes the header counts.
+pub fn count(out: &[u8]) -> usize
+    requires { ⌜ 9 ≤ length (now out) ⌝ }
+    ensures { λ r. ⌜ (r ≡ headerOf (now (out .entry)) .nodes) × (r < 65536) ⌝ }
+{
+    bytes::word(out, 6)
 }

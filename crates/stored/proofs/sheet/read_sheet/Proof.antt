@@ -15,6 +15,7 @@ use Rattle.stored.proofs.Answer.{Framed, Sized, framed-long, covered-na
 
 -- what is known past each test
 rule1 : (c : tie.Else1) → framed (now (c .before .before .before .args .sheet)) ≡ true
+unfolding framed
 rule1 c = sym (c .before .is-framed .ensures) ∙ not-false _ (c .if1 .left)
 
 rule2 : (c : tie.Else2) → versioned (now (c .before .before .before .before .before .args .sheet)) ≡ true
@@ -80,6 +81,7 @@ is-framed-requires : tie.Need-is-framed-requires
 is-framed-requires c κs = omega arith
 
 returns : tie.Need-returns
+unfolding framed
 returns c = refused1 _ (sym (c .before .is-framed .ensures) ∙ not-true _ (c .if1 .taken))
 
 byte-requires : tie.Need-byte-requires

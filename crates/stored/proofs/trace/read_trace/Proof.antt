@@ -11,6 +11,7 @@ use Rattle.stored.proofs.Answer.{TraceHeaded, trace-framed-long, refuse
 
 -- what is known past the first three tests
 rule10 : (c : tie.Else1) → traceFramed (now (c .before .before .before .args .trace)) ≡ true
+unfolding traceFramed
 rule10 c = sym (c .before .is-framed .ensures) ∙ not-false _ (c .if1 .left)
 
 rule11 : (c : tie.Else2) → traceVersioned (now (c .before .before .before .before .before .args .trace)) ≡ true
@@ -30,6 +31,7 @@ is-framed-requires : tie.Need-is-framed-requires
 is-framed-requires c κs = omega arith
 
 returns : tie.Need-returns
+unfolding traceFramed
 returns c = refused10 _ _ (sym (c .before .is-framed .ensures) ∙ not-true _ (c .if1 .taken))
 
 byte-requires : tie.Need-byte-requires

@@ -1,12 +1,12 @@
 use native.Mathlib.Omega.{arith}
-use Rattle.stored.proofs.sheet.is_framed.Statement.{statement}
-use Rattle.stored.proofs.sheet.is_framed.Tie as tie
+use Rattle.stored.proofs.bytes.is_framed.Statement.{statement}
+use Rattle.stored.proofs.bytes.is_framed.Tie as tie
 use mathlib.Core.Path.{_≡_, refl, sym, _∙_, ap}
 use borrow.Author.Tests.{eq-eqb, ne-eqb, lt-ltb, le-ltb, le-leb, lt-leb}
-use Rattle.stored.specs.Sheet.{framed}
+use Rattle.stored.specs.Bytes.{framedFrom}
 
 returns : tie.Need-returns
-unfolding framed
+unfolding framedFrom
 returns c = rw (lt-leb _ _ (c .if1 .taken))
 
 word-requires : tie.Need-word-requires
@@ -16,7 +16,7 @@ sub-result : tie.Need-sub-result
 sub-result c = omega arith
 
 returns-2 : tie.Need-returns-2
-unfolding framed
+unfolding framedFrom
 returns-2 c = rw (le-leb _ _ (c .before .if1 .left), c .word .ensures .0)
 
 pub is-framed-spec : {M : Type 1} → statement M

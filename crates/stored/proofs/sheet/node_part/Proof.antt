@@ -1,0 +1,30 @@
+use borrow.Author.Needs.{needs}
+use Rattle.stored.proofs.sheet.node_part.Statement.{statement}
+use Rattle.stored.proofs.sheet.node_part.Tie as tie
+use mathlib.Core.Path.{_≡_, refl, sym, _∙_, ap}
+use native.Mathlib.Omega.{arith}
+use Rattle.stored.proofs.Accepted.{answer-accepted, sizes}
+use Rattle.stored.specs.Sheet.{clausesStart, nodePart}
+
+mul-end : tie.Need-mul-end
+mul-end c = omega (arith, sizes _ _ (c .before .pre))
+
+add-end : tie.Need-add-end
+add-end c = omega (arith, sizes _ _ (c .before .pre))
+
+sub-result : tie.Need-sub-result
+sub-result c = search needs
+
+part-result-start : tie.Need-part-result-start
+part-result-start c = search needs
+
+part-result-end : tie.Need-part-result-end
+part-result-end c = omega (arith, sizes _ _ (c .before .pre))
+
+returns : tie.Need-returns
+unfolding nodePart clausesStart
+returns c = rw (answer-accepted _ _ (c .before .before .pre) .1)
+
+pub node-part-spec : {M : Type 1} → statement M
+node-part-spec =
+    tie.close (tie.spec mul-end add-end sub-result part-result-start part-result-end returns)

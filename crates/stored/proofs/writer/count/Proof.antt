@@ -1,0 +1,15 @@
+use borrow.Author.Needs.{needs}
+use Rattle.stored.proofs.writer.count.Statement.{statement}
+use Rattle.stored.proofs.writer.count.Tie as tie
+use mathlib.Core.Path.{_≡_, refl, sym, _∙_, ap}
+use Rattle.stored.specs.Sheet.{headerOf}
+
+word-requires : tie.Need-word-requires
+word-requires c κs = search needs
+
+returns : tie.Need-returns
+unfolding headerOf
+returns c = (c .word .ensures .0, c .word .ensures .1)
+
+pub count-spec : {M : Type 1} → statement M
+count-spec = tie.close (tie.spec word-requires returns)

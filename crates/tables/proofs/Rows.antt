@@ -1,0 +1,59 @@
+-- Laws of rows in the words.
+use Prim.Native.Nat.{ℕ, zero, suc, _+_, _-_, _*_, _^_, _≤_, _<_}
+use mathlib.Core.Bool.{Bool, true, false, not, cond, _&&_, _||_}
+use mathlib.Core.List.{List}
+use mathlib.Core.Path.{_≡_, refl, sym, _∙_, ap, ap₂}
+use native.Mathlib.Omega.{arith}
+use borrow.Author.Tests.{le-ltb, lt-ltb}
+use lib.Dec.{leb, ltb, eqb}
+use lib.ListN.{length, getD, take, drop}
+use lib.Seq.{getD-take, getD-drop}
+use Rattle.semantics.specs.Cycles.{someBelow}
+use Rattle.semantics.specs.Proposition.{bit}
+use Rattle.semantics.proofs.Cycles.{below-cong}
+use Rattle.rows.specs.Row.{word, joined, starred}
+use Rattle.rows.proofs.Rows.{word-ext}
+use Rattle.stored.specs.declared.Node.{Node}
+use Rattle.stored.specs.Tree.{FormulaOp, formulaOp}
+use Rattle.tables.specs.Table.{rowAt}
+use Rattle.tables.specs.Step.{rowOf, lineOf}
+
+-- joins go by the first 64 words alone
+pub joined-ext : (set : ℕ) (v w : ℕ → ℕ) → ((i : ℕ) → i < 64 → v i ≡ w i) → joined set v ≡ joined set w
+unfolding joined
+joined-ext set v w f =
+    word-ext 64 (λ e. someBelow 64 (λ i. bit set i && bit (v i) e)) (λ e. someBelow 64 (λ i. bit set i && bit (w i) e))
+    (λ e l. below-cong 64 (λ i. bit set i && bit (v i) e) (λ i. bit set i && bit (w i) e)
+    (λ i m. ap (λ (z : ℕ). bit set i && bit z e) (f i m)))
+
+pub starred-ext : (links : ℕ) (v w : ℕ → ℕ) (b : ℕ) → ((i : ℕ) → i < 64 → v i ≡ w i) → starred links v b ≡ starred links w b
+unfolding starred
+starred-ext links v w b f =
+    word-ext 64 (λ e. eqb b e || someBelow 64 (λ i. (ltb b i && bit links i) && bit (v i) e)) (λ e. eqb b e || someBelow 64 (λ i. (ltb b i && bit links i) && bit (w i) e))
+    (λ e l. ap (λ (c : Bool). eqb b e || c)
+    (below-cong 64 (λ i. (ltb b i && bit links i) && bit (v i) e) (λ i. (ltb b i && bit links i) && bit (w i) e)
+    (λ i m. ap (λ (z : ℕ). (ltb b i && bit links i) && bit z e) (f i m))))
+
+-- the rows of node i as a part of the words
+pub part-row : (words : List ℕ) (i from to : ℕ) → from ≡ 64 * i → to ≡ from + 64 → (b : ℕ) → b < 64 → getD (take (to - from) (drop from words)) b 0 ≡ rowAt words i b
+unfolding rowAt
+part-row words i from to e g b l =
+    getD-take (to - from) (drop from words) b 0 (omega arith)
+    ∙ getD-drop from words b 0
+    ∙ ap (λ (k : ℕ). getD words (k + b) 0) e
+
+-- the row of a node whose op is told
+pub row-told : (x : Node) (k n first second : ℕ) (words : List ℕ) (own b v : ℕ) → x .op ≡ k
+    → v ≡ rowOf (formulaOp k) x n first second words own b → v ≡ rowOf (formulaOp (x .op)) x n first second words own b
+row-told x k n first second words own b v e f = f ∙ ap (λ (j : ℕ). rowOf (formulaOp j) x n first second words own b) (sym e)
+
+pub line-inside : (o : FormulaOp) (x : Node) (n first second : ℕ) (words : List ℕ) (own b v : ℕ) → b < n
+    → v ≡ rowOf o x n first second words own b → v ≡ lineOf o x n first second words own b
+unfolding lineOf
+line-inside o x n first second words own b v h e =
+    e ∙ ap (λ (c : Bool). cond c (rowOf o x n first second words own b) 0) (sym (lt-ltb b n h))
+
+pub line-past : (o : FormulaOp) (x : Node) (n first second : ℕ) (words : List ℕ) (own b : ℕ) → n ≤ b → 0 ≡ lineOf o x n first second words own b
+unfolding lineOf
+line-past o x n first second words own b h =
+    ap (λ (c : Bool). cond c (rowOf o x n first second words own b) 0) (sym (le-ltb b n h))

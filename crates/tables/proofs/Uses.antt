@@ -1,0 +1,64 @@
+-- What an op uses its fields for, over the ops of one family.
+use Prim.Native.Nat.{ℕ, _≤_, _<_}
+use mathlib.Core.Bool.{Bool, true, false, not, _&&_, _||_}
+use mathlib.Core.List.{List}
+use mathlib.Core.Path.{_≡_, refl, sym, _∙_, ap}
+use native.Mathlib.Omega.{arith}
+use borrow.Author.Tests.{ltb-true, leb-true, eqb-true, eq-eqb, lt-ltb, le-leb}
+use lib.Dec.{leb, ltb, eqb}
+use lib.ListN.{length, List·getD-eq-default}
+use Rattle.stored.specs.Bytes.{everyBelow}
+use Rattle.stored.specs.Node.{requirementSorts, sortOf, aUse, qUse}
+use Rattle.semantics.proofs.Tests.{and-left, and-right}
+use Rattle.stored.proofs.Rules.{asked, every-at, every-number}
+
+-- chop, and, or, star
+pub joins-formula : (k : ℕ) → 20 ≤ k → k < 24 → aUse k ≡ 8
+unfolding aUse everyBelow
+joins-formula k l h =
+    eqb-true (aUse k) 8
+    (asked (leb 20 k) (eqb (aUse k) 8) (every-at 24 (λ k. not (leb 20 k) || eqb (aUse k) 8) refl k h) (le-leb 20 k l))
+
+-- slen, scount, sdur
+pub counts-compare : (k : ℕ) → 24 ≤ k → k < 27 → qUse k ≡ 3
+unfolding qUse everyBelow
+counts-compare k l h =
+    eqb-true (qUse k) 3
+    (asked (leb 24 k) (eqb (qUse k) 3) (every-at 27 (λ k. not (leb 24 k) || eqb (qUse k) 3) refl k h) (le-leb 24 k l))
+
+-- the ops of a sort
+pub record Ops (low high k : ℕ) : Type 0 where
+  pub least : low ≤ k
+  pub most : k < high
+
+ops : (sort low high : ℕ) → (k : ℕ) → (not (eqb (sortOf requirementSorts k) sort) || (leb low k && ltb k high)) ≡ true → sortOf requirementSorts k ≡ sort → Ops low high k
+ops sort low high k t e =
+    let r = asked (eqb (sortOf requirementSorts k) sort) (leb low k && ltb k high) t (eq-eqb (sortOf requirementSorts k) sort e) in
+    record { least = leb-true low k (and-left (leb low k) (ltb k high) r); most = ltb-true k high (and-right (leb low k) (ltb k high) r) }
+
+pub proposition-ops : (k : ℕ) → sortOf requirementSorts k ≡ 1 → Ops 1 8 k
+unfolding sortOf everyBelow
+proposition-ops k =
+    ops 1 1 8 k
+    (every-number 32 (λ k. not (eqb (sortOf requirementSorts k) 1) || (leb 1 k && ltb k 8)) refl
+    (λ k h. ap (λ (z : ℕ). not (eqb z 1) || (leb 1 k && ltb k 8)) (List·getD-eq-default requirementSorts 0 h)) k)
+
+pub formula-ops : (k : ℕ) → sortOf requirementSorts k ≡ 2 → Ops 16 30 k
+unfolding sortOf everyBelow
+formula-ops k =
+    ops 2 16 30 k
+    (every-number 32 (λ k. not (eqb (sortOf requirementSorts k) 2) || (leb 16 k && ltb k 30)) refl
+    (λ k h. ap (λ (z : ℕ). not (eqb z 2) || (leb 16 k && ltb k 30)) (List·getD-eq-default requirementSorts 0 h)) k)
+
+-- a sort that is neither no sort nor a proposition
+pub formula-left : (k : ℕ) → (sortOf requirementSorts k ≡ 0 → ⊥) → (sortOf requirementSorts k ≡ 1 → ⊥) → sortOf requirementSorts k ≡ 2
+unfolding sortOf everyBelow
+formula-left k known other =
+    let most : sortOf requirementSorts k ≤ 2 =
+    leb-true (sortOf requirementSorts k) 2
+    (every-number 32 (λ k. leb (sortOf requirementSorts k) 2) refl
+    (λ k h. ap (λ (z : ℕ). leb z 2) (List·getD-eq-default requirementSorts 0 h)) k) in
+    left (sortOf requirementSorts k) most known other
+  where
+    left : (s : ℕ) → s ≤ 2 → (s ≡ 0 → ⊥) → (s ≡ 1 → ⊥) → s ≡ 2
+    left s h a b = omega arith

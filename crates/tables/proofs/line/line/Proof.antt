@@ -1,0 +1,60 @@
+-- `tables::line::line` meets its contract.
+use mathlib.Core.Path.{_≡_, refl, sym, _∙_, ap, ap₂}
+use native.Mathlib.Omega.{arith}
+use Prim.Native.Nat.{ℕ, zero, suc, _+_, _-_, _*_, _^_, _≤_, _<_}
+use borrow.Author.Needs.{needs}
+use Rattle.stored.specs.Tree.{formulaOp}
+use Rattle.tables.proofs.Rows.{line-inside, line-past}
+use Rattle.tables.proofs.line.line.Statement.{statement}
+use Rattle.tables.proofs.line.line.Tie as tie
+
+returns : tie.Need-returns
+returns c =
+    let a = c .before .before .args in
+    line-past (formulaOp (a .x .op)) (a .x) (a .n) (a .first) (a .second) (a .words .now) (a .own) (a .b) (c .if1 .taken)
+
+shape-row-requires : tie.Need-shape-row-requires
+shape-row-requires c κs = search needs
+
+returns-2 : tie.Need-returns-2
+returns-2 c =
+    let a = c .before .before .before .before .args in
+    line-inside (formulaOp (a .x .op)) (a .x) (a .n) (a .first) (a .second) (a .words .now) (a .own) (a .b) _ (omega arith) (c .shape-row .ensures)
+
+joined-row-requires : tie.Need-joined-row-requires
+joined-row-requires c κs = (c .before .before .before .before .pre .0, omega arith)
+
+returns-3 : tie.Need-returns-3
+returns-3 c =
+    let a = c .before .before .before .before .before .args in
+    line-inside (formulaOp (a .x .op)) (a .x) (a .n) (a .first) (a .second) (a .words .now) (a .own) (a .b) _ (omega arith) (c .joined-row .ensures)
+
+count-row-requires : tie.Need-count-row-requires
+count-row-requires c κs = (c .before .before .before .before .before .pre .0, omega arith)
+
+returns-4 : tie.Need-returns-4
+returns-4 c =
+    let a = c .before .before .before .before .before .before .args in
+    line-inside (formulaOp (a .x .op)) (a .x) (a .n) (a .first) (a .second) (a .words .now) (a .own) (a .b) _ (omega arith) (c .count-row .ensures)
+
+drawing-row-requires : tie.Need-drawing-row-requires
+drawing-row-requires c κs = (c .before .before .before .before .before .pre .0, omega arith)
+
+returns-5 : tie.Need-returns-5
+returns-5 c =
+    let a = c .before .before .before .before .before .before .args in
+    line-inside (formulaOp (a .x .op)) (a .x) (a .n) (a .first) (a .second) (a .words .now) (a .own) (a .b) _ (omega arith) (c .drawing-row .ensures)
+
+pub line-spec : {M : Type 1} → statement M
+line-spec =
+    tie.close
+    (tie.spec
+    returns
+    shape-row-requires
+    returns-2
+    joined-row-requires
+    returns-3
+    count-row-requires
+    returns-4
+    drawing-row-requires
+    returns-5)

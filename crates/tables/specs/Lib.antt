@@ -1,0 +1,4 @@
+-- Interval tables of a sheet's nodes in lent words.
+pub mod Table
+pub mod Ready
+pub mod Step

@@ -1,0 +1,155 @@
+// Row b of a formula node, from the columns that it is over and its operands' rows in the words.
+ghost use mathlib.Core.Path.{_≡_};
+ghost use Prim.Native.Nat.{_+_, _*_, _≤_, _<_};
+ghost use lib.ListN.{length};
+ghost use Rattle.rows.specs.Symbols as symbols;
+ghost use Rattle.stored.specs.Tree.{comparisonOf, symbolOf, formulaOp};
+ghost use Rattle.tables.specs.Step.{Usable, rowOf, lineOf};
+use crate::words::joined_at;
+use crate::words::row_at;
+use crate::words::starred_at;
+use rows::count;
+use rows::count::Comparison;
+use rows::gap::gap;
+use rows::join::join;
+use rows::join::star_row;
+use rows::shape;
+use rows::shape::Symbol;
+use stored::Node;
+
+// A comparison's number: 0 <, 1 ≤, 2 =, 3 ≥, 4 >.
+fn comparison(q: usize) -> Comparison
+    requires { ⌜ q < 5 ⌝ }
+    ensures { λ r. ⌜ symbols.comparisonOf r ≡ comparisonOf q ⌝ }
+{
+    match q {
+        0 => Comparison::Below,
+        1 => Comparison::AtMost,
+        2 => Comparison::Equal,
+        3 => Comparison::AtLeast,
+        _ => Comparison::Above,
+    }
+}
+
+// A symbol's number.
+fn symbol(q: usize) -> Symbol
+    requires { ⌜ q < 8 ⌝ }
+    ensures { λ r. ⌜ symbols.symbolOf r ≡ symbolOf q ⌝ }
+{
+    if q < 4 {
+        match q {
+            0 => Symbol::Low,
+            1 => Symbol::High,
+            2 => Symbol::Either,
+            _ => Symbol::Either,
+        }
+    } else {
+        match q {
+            4 => Symbol::LowStretch,
+            5 => Symbol::HighStretch,
+            6 => Symbol::EitherStretch,
+            _ => Symbol::Steady,
+        }
+    }
+}
+
+// ⟨p⟩, [p], [[p]] and {{p}}.
+fn shape_row(x: Node, n: usize, first: u64, second: u64, words: &[u64], own: usize, b: usize) -> u64
+    requires { ⌜ (16 ≤ x .op) × (x .op < 20) × (b < n) × (n ≤ 64) ⌝ }
+    ensures { λ r. ⌜ r ≡ rowOf (formulaOp (x .op)) x n first second (now (words .entry)) own b ⌝ }
+{
+    let op = x.op;
+    match op {
+        16 => shape::point(first, b, n),
+        17 => shape::stretch(first, b, n),
+        18 => shape::whole(first, b, n),
+        _ => shape::unit(first, b, n),
+    }
+}
+
+// Chop, and, or, star.
+fn joined_row(
+    x: Node,
+    n: usize,
+    first: u64,
+    second: u64,
+    words: &[u64],
+    own: usize,
+    b: usize,
+) -> u64
+    requires { ⌜ Usable x own ⌝ }
+    requires { ⌜ (20 ≤ x .op) × (x .op < 24) × (b < 64) × (64 * own + 64 ≤ length (now words)) ⌝ }
+    ensures { λ r. ⌜ r ≡ rowOf (formulaOp (x .op)) x n first second (now (words .entry)) own b ⌝ }
+{
+    let op = x.op;
+    let other = x.b;
+    let left = row_at(words, x.a, b);
+    match op {
+        20 => joined_at(left, words, other),
+        21 => left & row_at(words, other, b),
+        22 => left | row_at(words, other, b),
+        _ => starred_at(left, words, own, b),
+    }
+}
+
+// slen, scount and sdur.
+fn count_row(x: Node, n: usize, first: u64, second: u64, words: &[u64], own: usize, b: usize) -> u64
+    requires { ⌜ Usable x own ⌝ }
+    requires { ⌜ (24 ≤ x .op) × (x .op < 27) × (b < n) × (n ≤ 64) ⌝ }
+    ensures { λ r. ⌜ r ≡ rowOf (formulaOp (x .op)) x n first second (now (words .entry)) own b ⌝ }
+{
+    let op = x.op;
+    let number = x.b;
+    let compared = comparison(x.q);
+    match op {
+        24 => count::slen(compared, number, b, n),
+        25 => count::scount(compared, first, number, b, n),
+        _ => count::sdur(compared, first, number, b, n),
+    }
+}
+
+// A symbol, a mark and a gap.
+fn drawing_row(
+    x: Node,
+    n: usize,
+    first: u64,
+    second: u64,
+    words: &[u64],
+    own: usize,
+    b: usize,
+) -> u64
+    requires { ⌜ Usable x own ⌝ }
+    requires { ⌜ (27 ≤ x .op) × (x .op < 30) × (b < n) × (n ≤ 64) ⌝ }
+    ensures { λ r. ⌜ r ≡ rowOf (formulaOp (x .op)) x n first second (now (words .entry)) own b ⌝ }
+{
+    let op = x.op;
+    let fewest = x.a;
+    let most = x.b;
+    match op {
+        27 => shape::drawn(symbol(x.q), first, b, n),
+        28 => shape::marked(first, b, n),
+        _ => gap(first, second, fewest, most, b, n),
+    }
+}
+
+// Row b, 0 past the last cycle.
+pub fn line(x: Node, n: usize, first: u64, second: u64, words: &[u64], own: usize, b: usize) -> u64
+    requires { ⌜ Usable x own ⌝ }
+    requires { ⌜ (16 ≤ x .op) × (x .op < 30) × (n ≤ 64) × (64 * own + 64 ≤ length (now words)) ⌝ }
+    ensures { λ r. ⌜ r ≡ lineOf (formulaOp (x .op)) x n first second (now (words .entry)) own b ⌝ }
+{
+    let op = x.op;
+    if n <= b {
+        return 0;
+    }
+    if op < 20 {
+        return shape_row(x, n, first, second, words, own, b);
+    }
+    if op < 24 {
+        return joined_row(x, n, first, second, words, own, b);
+    }
+    if op < 27 {
+        return count_row(x, n, first, second, words, own, b);
+    }
+    drawing_row(x, n, first, second, words, own, b)
+}

@@ -1,0 +1,47 @@
+// The lent words: rows read from them, and all of them cleared.
+ghost use mathlib.Core.Path.{_≡_};
+ghost use Prim.Native.Nat.{_+_, _*_, _≤_, _<_};
+ghost use lib.ListN.{length, replicate};
+ghost use Rattle.rows.specs.Row.{joined, starred};
+ghost use Rattle.tables.specs.Table.{rowAt};
+use rows::join::join;
+use rows::join::star_row;
+
+// Row b of node i.
+pub fn row_at(words: &[u64], i: usize, b: usize) -> u64
+    requires { ⌜ 64 * i + b < length (now words) ⌝ }
+    ensures { λ r. ⌜ r ≡ rowAt (now (words .entry)) i b ⌝ }
+{
+    words[64 * i + b]
+}
+
+// The rows of node i that start where an interval of `row` ends, joined straight from the words.
+pub fn joined_at(row: u64, words: &[u64], i: usize) -> u64
+    requires { ⌜ 64 * i + 64 ≤ length (now words) ⌝ }
+    ensures { λ r. ⌜ r ≡ joined row (rowAt (now (words .entry)) i) ⌝ }
+{
+    let from = 64 * i;
+    let to = from + 64;
+    join(row, &words[from..to])
+}
+
+// Row b of the star at node i, from row b of its formula and its own later rows.
+pub fn starred_at(links: u64, words: &[u64], i: usize, b: usize) -> u64
+    requires { ⌜ (b < 64) × (64 * i + 64 ≤ length (now words)) ⌝ }
+    ensures { λ r. ⌜ r ≡ starred links (rowAt (now (words .entry)) i) b ⌝ }
+{
+    let from = 64 * i;
+    let to = from + 64;
+    star_row(links, &words[from..to], b)
+}
+
+// Every word zero.
+pub fn clear(words: &mut [u64])
+    ensures { λ r. ⌜ now (words .exit) ≡ replicate (length (now (words .entry))) 0 ⌝ }
+{
+    let mut k = 0;
+    while k < words.len() {
+        words[k] = 0;
+        k += 1;
+    }
+}
