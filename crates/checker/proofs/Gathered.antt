@@ -15,7 +15,7 @@ use Rattle.semantics.specs.Placement.{Placement}
 use Rattle.rows.specs.Row.{word, holding}
 use Rattle.rows.proofs.Bits.{bit-or}
 use Rattle.rows.proofs.Rows.{word-bit}
-use Rattle.checker.specs.Temp.{standing, rowAt}
+use Rattle.tables.specs.Table.{standing, rowAt}
 use Rattle.checker.specs.Search.{insideName, inside}
 use Rattle.checker.specs.Rows.{testOf}
 use Rattle.checker.specs.Gather.{narrow, cutTo, gathered, Adds}

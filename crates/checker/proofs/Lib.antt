@@ -4,3 +4,5 @@ pub mod Found
 pub mod Searching
 pub mod Gathered
 pub mod Loops
+pub mod Tasks
+pub mod Laying

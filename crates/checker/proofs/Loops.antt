@@ -1,19 +1,21 @@
 -- Loops over the cycles of one name, and what they find.
-use Prim.Native.Nat.{ℕ, zero, suc, _+_, _-_, _/_, _%_, _≤_, _<_}
+use Prim.Native.Nat.{ℕ, zero, suc, _+_, _-_, _/_, _%_, _≤_, _<_, min}
 use native.Mathlib.Omega.{arith}
 use native.Mathlib.Numerals.{add-one}
 use mathlib.Core.Bool.{Bool, true, false, not, cond, _&&_, _||_, false≢true}
 use mathlib.Core.List.{List}
+use mathlib.Core.Logic.{_⊎_, inl, inr}
 use mathlib.Core.Path.{_≡_, refl, sym, ap, ap₂, subst, fun-ext, _∙_}
 use lib.Dec.{leb, ltb, eqb}
-use borrow.Author.Tests.{leb-true, ltb-true, eqb-true}
+use borrow.Author.Tests.{leb-true, leb-false}
 use Rattle.semantics.specs.Cycles.{someFrom, someIn}
+use Rattle.semantics.specs.Proposition.{bit}
 use Rattle.semantics.specs.Placement.{Names, noNames, Placement, unplaced, moved, placeName, somePlacement}
 use Rattle.semantics.specs.Clause.{Kind, pref, init, anti, implies, follows, triggers}
-use Rattle.semantics.proofs.Tests.{same, is-false, and-left, and-right}
+use Rattle.semantics.proofs.Tests.{same, test}
 use Rattle.semantics.proofs.Cycles.{some-intro, some-elim, some-none, some-cong}
 use Rattle.semantics.proofs.Placement.{moved-same, not-near}
-use Rattle.checker.specs.Temp.{standing}
+use Rattle.tables.specs.Table.{standing}
 use Rattle.checker.specs.Search.{missed}
 use Rattle.checker.specs.Places.{places, numbered, IsLeast}
 use Rattle.checker.specs.Rows.{testOf}
@@ -64,7 +66,7 @@ unplaced-stands = fun-ext all
 -- a loop over the cycles of name u is its placement
 pub place-loop : (u : ℕ) (names : Names) (n : ℕ) (ν : Placement) (q : Placement → Bool) → 0 < n
     → someFrom (lowOf (names u) (ν u)) (highOf (names u) n (ν u)) (λ t. q (moved u t ν)) ≡ placeName u noNames names 0 (n - 1) ν q
-unfolding lowOf highOf placeName noNames
+unfolding placeName noNames
 place-loop u names n ν q h = go (names u)
   where
     whole : suc (n - 1) ≡ n
@@ -80,6 +82,23 @@ place-loop u names n ν q h = go (names u)
         rw (moved-same u (w .at) ν e) at (w .ok))
         (λ s. some-intro (ν u) (ν u + 1) (λ t. q (moved u t ν)) (ν u) (omega arith) (omega arith) (rw (moved-same u (ν u) ν refl) s))
 
+-- the same, where the placement for each cycle is known
+pub loop-over : (u names n : ℕ) (ν : Placement) (at : ℕ → Placement) (q : Placement → Bool) (low high : ℕ) → ((t : ℕ) → moved u t ν ≡ at t) → 0 < n
+    → low ≡ lowOf (bit names u) (ν u) → high ≡ highOf (bit names u) n (ν u)
+    → someFrom low high (λ t. q (at t)) ≡ placeName u noNames (bit names) 0 (n - 1) ν q
+loop-over u names n ν at q low high f h l k =
+    ap₂ (λ (a b : ℕ). someFrom a b (λ t. q (at t))) l k
+    ∙ ap (λ (g : ℕ → Bool). someFrom (lowOf (bit names u) (ν u)) (highOf (bit names u) n (ν u)) g) (fun-ext (λ t. ap q (sym (f t))))
+    ∙ place-loop u (bit names) n ν q h
+
+pub low-high : (moves : Bool) (n p : ℕ) → p < n → lowOf moves p ≤ highOf moves n p
+low-high true n p h = omega arith
+low-high false n p h = omega arith
+
+pub high-most : (moves : Bool) (n p : ℕ) → p < n → highOf moves n p ≤ n
+high-most true n p h = omega arith
+high-most false n p h = omega arith
+
 -- ---- least places over the cycles passed
 pub least-start : (low : ℕ) (p : ℕ → ℕ → Bool) → IsLeast (λ x. someFrom low low (λ t. p t x)) places
 least-start low p = least-none (λ x l. some-none low low (λ t. p t x) (λ t a b q. absurd (omega arith)))
@@ -88,11 +107,25 @@ module _ (low t : ℕ) (p : ℕ → ℕ → Bool) (best r : ℕ) (h : low ≤ t)
   turn : (x : ℕ) → someFrom low t (λ t. p t x) || p t x ≡ someFrom low (t + 1) (λ t. p t x)
   turn x = sym (some-step low t (λ t. p t x) h) ∙ ap (λ (e : ℕ). someFrom low e (λ t. p t x)) (sym (add-one t))
 
-  pub least-kept : best ≤ r → IsLeast (λ x. someFrom low (t + 1) (λ t. p t x)) best
+  least-kept : best ≤ r → IsLeast (λ x. someFrom low (t + 1) (λ t. p t x)) best
   least-kept l = least-ext (λ x m. turn x) (least-first a b l)
 
-  pub least-lower : r ≤ best → IsLeast (λ x. someFrom low (t + 1) (λ t. p t x)) r
+  least-lower : r ≤ best → IsLeast (λ x. someFrom low (t + 1) (λ t. p t x)) r
   least-lower l = least-ext (λ x m. turn x) (least-second a b l)
+
+  -- the lesser of the two
+  pub least-turn : IsLeast (λ x. someFrom low (t + 1) (λ t. p t x)) (min r best)
+  least-turn =
+      elim (test (leb r best)) [
+        | inl l ↦
+            let o = leb-true r best l in
+            let e : min r best ≡ r = omega arith in
+            rw e (least-lower o)
+        | inr l ↦
+            let o = leb-false r best l in
+            let e : min r best ≡ best = omega arith in
+            rw e (least-kept (omega arith))
+      ]
 
 -- ---- rows that gain the intervals of the cycles passed
 pub adds-start : (n low : ℕ) (rows : List ℕ) (q : ℕ → ℕ → ℕ → Bool) → Adds n rows rows (λ b e. someFrom low low (λ t. q t b e))

@@ -65,7 +65,7 @@ all-placed names x y ν p =
     (record { inside = inside-from names x y ν (and-left (inside names x y ν) (p ν) h); ok = and-right (inside names x y ν) (p ν) h }))
 
 -- a condition that does not depend on the placement
-and-placement : (a : Bool) (before names : Names) (x y : ℕ) (ν : Placement) (p : Placement → Bool)
+pub and-placement : (a : Bool) (before names : Names) (x y : ℕ) (ν : Placement) (p : Placement → Bool)
     → a && somePlacement before names x y ν p ≡ somePlacement before names x y ν (λ ν′. a && p ν′)
 and-placement true before names x y ν p = refl
 and-placement false before names x y ν p =

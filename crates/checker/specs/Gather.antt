@@ -5,7 +5,7 @@ use mathlib.Core.List.{List}
 use mathlib.Core.Path.{_≡_}
 use Rattle.semantics.specs.Proposition.{bit}
 use Rattle.rows.specs.Row.{holding, shortestOf}
-use Rattle.checker.specs.Temp.{standing, rowAt}
+use Rattle.tables.specs.Table.{standing, rowAt}
 use Rattle.checker.specs.Search.{inside}
 use Rattle.checker.specs.Rows.{testOf}
 

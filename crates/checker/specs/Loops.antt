@@ -2,8 +2,8 @@
 use Prim.Native.Nat.{ℕ, _+_}
 use mathlib.Core.Bool.{Bool, cond}
 
-unfoldable pub lowOf : Bool → ℕ → ℕ
+abbrev pub lowOf : Bool → ℕ → ℕ
 lowOf moves p = cond moves 0 p
 
-unfoldable pub highOf : Bool → ℕ → ℕ → ℕ
+abbrev pub highOf : Bool → ℕ → ℕ → ℕ
 highOf moves n p = cond moves n (p + 1)

@@ -9,7 +9,7 @@ ghost use Rattle.semantics.specs.Proposition.{bit};
 ghost use Rattle.checker.specs.Gather.{narrow, cutTo, gathered, Adds};
 
 // Whether the mask has name u.
-fn has_name(names: usize, u: usize) -> bool
+pub fn has_name(names: usize, u: usize) -> bool
     requires { ⌜ u < 64 ⌝ }
     ensures { λ r. ⌜ r ≡ bit names u ⌝ }
 {

@@ -4,7 +4,7 @@ use mathlib.Core.Path.{_≡_, refl, sym, ap, _∙_}
 use native.Mathlib.Omega.{arith}
 use lib.Bits.{bitOr}
 use lib.ListN.{length, getD, length-set}
-use Rattle.checker.specs.Temp.{rowAt}
+use Rattle.tables.specs.Table.{rowAt}
 use Rattle.checker.specs.Gather.{cutTo, narrow}
 use Rattle.semantics.specs.Proposition.{bit}
 use Rattle.checker.proofs.Gathered.{addedRow, Added, added-none, added-turn, added-all}
