@@ -6,3 +6,7 @@ pub mod Gathered
 pub mod Loops
 pub mod Tasks
 pub mod Laying
+pub mod Refusals
+pub mod Opened
+pub mod Copies
+pub mod Whole

@@ -5,3 +5,4 @@ pub mod Gather
 pub mod Loops
 pub mod Task
 pub mod Laid
+pub mod Table

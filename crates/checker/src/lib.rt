@@ -1,5 +1,7 @@
 // The check and its verdict; the table.
 pub mod gather;
+pub mod parts;
 pub mod place;
 pub mod search;
+pub mod table;
 pub mod task;

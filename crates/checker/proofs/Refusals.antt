@@ -1,0 +1,171 @@
+-- The order of the table operation's refusals.
+use Prim.Native.Nat.{ℕ, zero, suc, _+_, _≤_, _<_}
+use mathlib.Core.Bool.{Bool, true, false, not, cond, _&&_, _||_}
+use mathlib.Core.List.{List, [], _∷_}
+use mathlib.Core.Logic.{_⊎_, inl, inr}
+use mathlib.Core.Path.{_≡_, refl, sym, _∙_, ap, ap₂}
+use native.Mathlib.Omega.{arith}
+use borrow.Author.Tests.{eqb-true, eq-eqb, ltb-true, le-leb, lt-leb}
+use lib.Dec.{leb, ltb, eqb}
+use lib.ListN.{length, replicate}
+use Rattle.semantics.proofs.Tests.{test, and-left, and-right}
+use Rattle.stored.specs.declared.Node.{Node}
+use Rattle.stored.specs.declared.SheetAnswer.{SheetAnswer}
+use Rattle.stored.specs.declared.SheetAnswer.the-variants.{Accepted}
+use Rattle.stored.specs.declared.TraceAnswer.{TraceAnswer}
+use Rattle.stored.specs.declared.TraceAnswer.the-variants.{Cycles}
+use Rattle.stored.specs.Bytes.{lowest}
+use Rattle.stored.specs.Node.{requirementSorts, isFormulaNode}
+use Rattle.stored.specs.Sheet.{headerOf, nodesOf, sheetRefusal, sheetAnswer, sheetNumber}
+use Rattle.stored.specs.Trace.{cycleCount, cyclesOf, traceRefusal, traceAnswer, traceNumber}
+use Rattle.stored.specs.Tree.{pick}
+use Rattle.stored.proofs.Rules.{asked}
+use Rattle.tables.specs.Table.{standing}
+use Rattle.checker.specs.declared.table.TableAnswer.{TableAnswer}
+use Rattle.checker.specs.Table.{namePlaced, namesPlaced, heeded, placementOf, tableOf, nodeRules, nodeRefusal, orElse, wordsRefusal, tableRefusal, refusedWith, answerFor, tableAnswer, wordsAfter}
+
+-- an answer's number is the refusal's
+pub sheet-number : (s : List ℕ) → sheetNumber (sheetAnswer s) ≡ sheetRefusal s
+unfolding sheetAnswer sheetNumber pick
+sheet-number s = go (eqb (sheetRefusal s) 0) refl
+  where
+    go : (b : Bool) → eqb (sheetRefusal s) 0 ≡ b → sheetNumber (pick b (Accepted (headerOf s)) (SheetAnswer.Refused (sheetRefusal s))) ≡ sheetRefusal s
+    go true e = sym (eqb-true (sheetRefusal s) 0 e)
+    go false e = refl
+
+pub sheet-refused : (s : List ℕ) (k : ℕ) → sheetAnswer s ≡ SheetAnswer.Refused k → eqb (sheetRefusal s) 0 ≡ false
+unfolding sheetAnswer pick
+sheet-refused s k h = go (eqb (sheetRefusal s) 0) h
+  where
+    go : (b : Bool) → pick b (Accepted (headerOf s)) (SheetAnswer.Refused (sheetRefusal s)) ≡ SheetAnswer.Refused k → b ≡ false
+    go true q = absurd (let z : _≡_ {A = ℕ} 0 1 = cc in omega arith)
+    go false q = refl
+
+pub trace-number : (s : ℕ) (t : List ℕ) → traceNumber (traceAnswer s t) ≡ traceRefusal s t
+unfolding traceAnswer traceNumber pick
+trace-number s t = go (eqb (traceRefusal s t) 0) refl
+  where
+    go : (b : Bool) → eqb (traceRefusal s t) 0 ≡ b → traceNumber (pick b (Cycles (cycleCount t)) (TraceAnswer.Refused (traceRefusal s t))) ≡ traceRefusal s t
+    go true e = sym (eqb-true (traceRefusal s t) 0 e)
+    go false e = refl
+
+pub trace-refused : (s : ℕ) (t : List ℕ) (k : ℕ) → traceAnswer s t ≡ TraceAnswer.Refused k → eqb (traceRefusal s t) 0 ≡ false
+unfolding traceAnswer pick
+trace-refused s t k h = go (eqb (traceRefusal s t) 0) h
+  where
+    go : (b : Bool) → pick b (Cycles (cycleCount t)) (TraceAnswer.Refused (traceRefusal s t)) ≡ TraceAnswer.Refused k → b ≡ false
+    go true q = absurd (let z : _≡_ {A = ℕ} 0 1 = cc in omega arith)
+    go false q = refl
+
+or-first : (a b : ℕ) → eqb a 0 ≡ false → orElse a b ≡ a
+unfolding orElse
+or-first a b e = rw e
+
+or-second : (a b : ℕ) → a ≡ 0 → orElse a b ≡ b
+unfolding orElse
+or-second a b e = rw (eq-eqb a 0 e)
+
+-- what is answered, and what the words hold, for a number
+pub record Answers (number : ℕ) (rows old : List ℕ) (answer : TableAnswer) (new : List ℕ) : Type 0 where
+  pub answered : answer ≡ answerFor number rows
+  pub left : new ≡ wordsAfter number old
+
+pub answers-refused : (number r : ℕ) (rows words : List ℕ) → number ≡ r → eqb r 0 ≡ false → Answers r rows words (refusedWith number) words
+unfolding answerFor refusedWith wordsAfter pick
+answers-refused number r rows words e f =
+    record { answered = rw (f, e); left = rw f }
+
+pub answers-number : (number r : ℕ) (rows words : List ℕ) → number ≡ r → eqb number 0 ≡ false → Answers r rows words (refusedWith number) words
+answers-number number r rows words e f = answers-refused number r rows words e (ap (λ (k : ℕ). eqb k 0) (sym e) ∙ f)
+
+pub answers-rows : (r : ℕ) (rows words : List ℕ) → r ≡ 0 → Answers r rows words (record { refused = 0; rows = rows }) (replicate (length words) 0)
+unfolding answerFor wordsAfter pick
+answers-rows r rows words e = record { answered = rw e; left = rw e }
+
+-- refusals 16 and 17
+module _ (x : ℕ → Node) (count n m node p0 p1 p2 : ℕ) where
+  pub node-16 : isFormulaNode requirementSorts x count node ≡ false → 16 ≡ nodeRefusal x count n m node p0 p1 p2
+  unfolding nodeRefusal nodeRules lowest
+  node-16 e = rw e
+
+  pub node-17 : isFormulaNode requirementSorts x count node ≡ true → namesPlaced m n p0 p1 p2 ≡ false → 17 ≡ nodeRefusal x count n m node p0 p1 p2
+  unfolding nodeRefusal nodeRules lowest
+  node-17 e f = rw (e, f)
+
+  pub node-right : isFormulaNode requirementSorts x count node ≡ true → namesPlaced m n p0 p1 p2 ≡ true → nodeRefusal x count n m node p0 p1 p2 ≡ 0
+  unfolding nodeRefusal nodeRules lowest
+  node-right e f = rw (e, f)
+
+-- a cycle that is heeded is one of the trace
+heeded-inside : (m n u p : ℕ) → 1 ≤ n → namePlaced m n u p ≡ true → heeded m u p < n
+unfolding namePlaced heeded
+heeded-inside m n u p l h = go (ltb u m) h
+  where
+    go : (b : Bool) → (not b || ltb p n) ≡ true → cond b p 0 < n
+    go true e = ltb-true p n e
+    go false e = omega arith
+
+pub record Inside (m n p0 p1 p2 : ℕ) : Type 0 where
+  pub inside0 : heeded m 0 p0 < n
+  pub inside1 : heeded m 1 p1 < n
+  pub inside2 : heeded m 2 p2 < n
+
+pub names-inside : (m n p0 p1 p2 : ℕ) → 1 ≤ n → namesPlaced m n p0 p1 p2 ≡ true → Inside m n p0 p1 p2
+unfolding namesPlaced
+names-inside m n p0 p1 p2 l h =
+    let rest = and-right (namePlaced m n 0 p0) _ h in
+    record {
+      inside0 = heeded-inside m n 0 p0 l (and-left (namePlaced m n 0 p0) _ h);
+      inside1 = heeded-inside m n 1 p1 l (and-left (namePlaced m n 1 p1) (namePlaced m n 2 p2) rest);
+      inside2 = heeded-inside m n 2 p2 l (and-right (namePlaced m n 1 p1) (namePlaced m n 2 p2) rest);
+    }
+
+words-few : (words : List ℕ) → length words < 4096 → wordsRefusal words ≡ 15
+unfolding wordsRefusal lowest
+words-few words l = rw (lt-leb 4096 (length words) l)
+
+words-many : (words : List ℕ) → 4096 ≤ length words → wordsRefusal words ≡ 0
+unfolding wordsRefusal lowest
+words-many words l = rw (le-leb 4096 (length words) l)
+
+-- the cycles that are heeded
+pub placed-as : (m p0 p1 p2 q0 q1 q2 : ℕ) → q0 ≡ heeded m 0 p0 → q1 ≡ heeded m 1 p1 → q2 ≡ heeded m 2 p2 → standing q0 q1 q2 ≡ placementOf m p0 p1 p2
+unfolding placementOf
+placed-as m p0 p1 p2 q0 q1 q2 a b c = rw (a, b, c)
+
+-- the whole order
+module _ (s t : List ℕ) (node p0 p1 p2 : ℕ) (words : List ℕ) where
+  -- the answer and the words of a refusal
+  abbrev pub Refuses : ℕ → Type 0
+  Refuses number = (refusedWith number ≡ tableAnswer s t node p0 p1 p2 words) × (words ≡ wordsAfter (tableRefusal s t node p0 p1 p2 words) words)
+
+  by-number : (number r : ℕ) → tableRefusal s t node p0 p1 p2 words ≡ r → number ≡ r → eqb r 0 ≡ false → Refuses number
+  unfolding tableAnswer
+  by-number number r a e f =
+      let back = sym a in
+      let z = answers-refused number (tableRefusal s t node p0 p1 p2 words) (tableOf (nodesOf s) (cyclesOf t) node (placementOf (headerOf s .names) p0 p1 p2)) words (e ∙ back) (ap (λ (k : ℕ). eqb k 0) a ∙ f) in
+      (z .answered, z .left)
+
+  pub by-sheet : (number : ℕ) → number ≡ sheetRefusal s → eqb (sheetRefusal s) 0 ≡ false → Refuses number
+  unfolding tableRefusal
+  by-sheet number e f = by-number number (sheetRefusal s) (or-first (sheetRefusal s) _ f) e f
+
+  pub by-trace : (number : ℕ) → sheetRefusal s ≡ 0 → number ≡ traceRefusal (headerOf s .signals) t → eqb (traceRefusal (headerOf s .signals) t) 0 ≡ false → Refuses number
+  unfolding tableRefusal
+  by-trace number a e f =
+      by-number number (traceRefusal (headerOf s .signals) t) (or-second (sheetRefusal s) _ a ∙ or-first (traceRefusal (headerOf s .signals) t) _ f) e f
+
+  pub by-words : sheetRefusal s ≡ 0 → traceRefusal (headerOf s .signals) t ≡ 0 → length words < 4096 → Refuses 15
+  unfolding tableRefusal
+  by-words a b l =
+      let few = words-few words l in
+      let refused = ap (λ (k : ℕ). eqb k 0) few in
+      by-number 15 (wordsRefusal words)
+      (or-second (sheetRefusal s) _ a ∙ or-second (traceRefusal (headerOf s .signals) t) _ b ∙ or-first (wordsRefusal words) _ refused)
+      (sym few) refused
+
+  pub by-node : sheetRefusal s ≡ 0 → traceRefusal (headerOf s .signals) t ≡ 0 → 4096 ≤ length words
+      → nodeRefusal (nodesOf s) (headerOf s .nodes) (cycleCount t) (headerOf s .names) node p0 p1 p2 ≡ tableRefusal s t node p0 p1 p2 words
+  unfolding tableRefusal
+  by-node a b l =
+      sym (or-second (sheetRefusal s) _ a ∙ or-second (traceRefusal (headerOf s .signals) t) _ b ∙ or-second (wordsRefusal words) _ (words-many words l))

@@ -1,0 +1,161 @@
+// The interval table of one node.
+ghost use mathlib.Core.Path.{_≡_};
+ghost use mathlib.Core.Bool.{true};
+ghost use Prim.Native.Nat.{_+_, _*_, _≤_, _<_};
+ghost use lib.ListN.{length, replicate};
+ghost use Rattle.stored.specs.Bytes.{inOrder};
+ghost use Rattle.stored.specs.Node.{nodeAt, requirementSorts, sortOf, formula, isFormulaNode};
+ghost use Rattle.stored.specs.Trace.{cyclesOf};
+ghost use Rattle.tables.specs.Table.{standing, rowAt};
+ghost use Rattle.tables.specs.Ready.{Given};
+ghost use Rattle.checker.specs.Table.{namePlaced, namesPlaced, heeded, placementOf, tableOf, nodeRefusal, answerFor, refusedWith, wordsAfter, tableAnswer, tableRefusal};
+use crate::parts::node_part;
+use stored::SheetAnswer;
+use stored::TraceAnswer;
+use stored::masks::reach_table;
+use stored::nodes::is_formula_node;
+use stored::sheet::read_sheet;
+use stored::sheet::sheet_number;
+use stored::trace::read_trace;
+use stored::trace::trace_number;
+use tables::fill::fill;
+use tables::words::clear;
+use tables::words::row_at;
+
+// The number of the refusal, 0 for none, and the rows of the table.
+pub struct TableAnswer {
+    pub refused: usize,
+    pub rows: [u64; 64],
+}
+
+fn refused(number: usize) -> TableAnswer
+    ensures { λ r. ⌜ r ≡ refusedWith number ⌝ }
+{
+    TableAnswer {
+        refused: number,
+        rows: [0; 64],
+    }
+}
+
+// Name u is no name of the sheet, or stands on a cycle of the trace.
+fn name_placed(m: usize, n: usize, u: usize, p: usize) -> bool
+    ensures { λ r. ⌜ r ≡ namePlaced m n u p ⌝ }
+{
+    let named = u < m;
+    !named | (p < n)
+}
+
+fn names_placed(m: usize, n: usize, p0: usize, p1: usize, p2: usize) -> bool
+    ensures { λ r. ⌜ r ≡ namesPlaced m n p0 p1 p2 ⌝ }
+{
+    let first = name_placed(m, n, 0, p0);
+    let second = name_placed(m, n, 1, p1);
+    let third = name_placed(m, n, 2, p2);
+    first & (second & third)
+}
+
+// The cycle given for name u, which is ignored from m up.
+fn heed(m: usize, u: usize, p: usize) -> usize
+    ensures { λ r. ⌜ r ≡ heeded m u p ⌝ }
+{
+    if u < m { p } else { 0 }
+}
+
+// The rows of node i.
+fn copy_rows(words: &[u64], i: usize) -> [u64; 64]
+    requires { ⌜ 64 * i + 64 ≤ length (now words) ⌝ }
+    ensures { λ r. ⌜ r ≡ inOrder 64 (rowAt (now (words .entry)) i) ⌝ }
+{
+    let mut rows = [0u64; 64];
+    let mut b = 0;
+    while b < 64 {
+        rows[b] = row_at(words, i, b);
+        b += 1;
+    }
+    rows
+}
+
+// The rows of a formula node, and the words cleared.
+fn rows_of(
+    nodes: &[u8],
+    count: usize,
+    trace: &[u8],
+    n: usize,
+    node: usize,
+    p0: usize,
+    p1: usize,
+    p2: usize,
+    words: &mut [u64],
+) -> [u64; 64]
+    requires { ⌜ Given (now nodes) count (now trace) n p0 p1 p2 (now words) ⌝ }
+    requires { ⌜ (node < count) × (sortOf requirementSorts (nodeAt (now nodes) node .op) ≡ formula) ⌝ }
+    ensures { λ r. ⌜ r ≡ tableOf (nodeAt (now (nodes .entry))) (cyclesOf (now (trace .entry))) node (standing p0 p1 p2) ⌝ }
+    ensures { λ r. ⌜ now (words .exit) ≡ replicate (length (now (words .entry))) 0 ⌝ }
+{
+    let reach = reach_table(nodes, count);
+    fill(nodes, count, trace, n, &reach, 8, p0, p1, p2, words);
+    let rows = copy_rows(words, node);
+    clear(words);
+    rows
+}
+
+// The table of a node of accepted nodes, or refusal 16 or 17.
+fn node_table(
+    nodes: &[u8],
+    count: usize,
+    trace: &[u8],
+    n: usize,
+    m: usize,
+    node: usize,
+    p0: usize,
+    p1: usize,
+    p2: usize,
+    words: &mut [u64],
+) -> TableAnswer
+    requires { ⌜ Given (now nodes) count (now trace) n 0 0 0 (now words) ⌝ }
+    ensures { λ r. ⌜ r ≡ answerFor (nodeRefusal (nodeAt (now (nodes .entry))) count n m node p0 p1 p2) (tableOf (nodeAt (now (nodes .entry))) (cyclesOf (now (trace .entry))) node (placementOf m p0 p1 p2)) ⌝ }
+    ensures { λ r. ⌜ now (words .exit) ≡ wordsAfter (nodeRefusal (nodeAt (now (nodes .entry))) count n m node p0 p1 p2) (now (words .entry)) ⌝ }
+{
+    if !is_formula_node(nodes, count, node) {
+        return refused(16);
+    }
+    if !names_placed(m, n, p0, p1, p2) {
+        return refused(17);
+    }
+    let q0 = heed(m, 0, p0);
+    let q1 = heed(m, 1, p1);
+    let q2 = heed(m, 2, p2);
+    let rows = rows_of(nodes, count, trace, n, node, q0, q1, q2, words);
+    TableAnswer { refused: 0, rows }
+}
+
+// The table of a formula node of a sheet over a trace, each name on the cycle given for it, names from m up ignored.
+// The lent words are all zero afterwards, or as they were where a refusal's number is the answer.
+pub fn table(
+    sheet: &[u8],
+    trace: &[u8],
+    node: usize,
+    p0: usize,
+    p1: usize,
+    p2: usize,
+    words: &mut [u64],
+) -> TableAnswer
+    ensures { λ r. ⌜ r ≡ tableAnswer (now (sheet .entry)) (now (trace .entry)) node p0 p1 p2 (now (words .entry)) ⌝ }
+    ensures { λ r. ⌜ now (words .exit) ≡ wordsAfter (tableRefusal (now (sheet .entry)) (now (trace .entry)) node p0 p1 p2 (now (words .entry))) (now (words .entry)) ⌝ }
+{
+    let sheet_answer = read_sheet(sheet);
+    let SheetAnswer::Accepted(h) = sheet_answer else {
+        return refused(sheet_number(sheet_answer));
+    };
+    let count = h.nodes;
+    let m = h.names;
+    let trace_answer = read_trace(trace, h.signals);
+    let TraceAnswer::Cycles(n) = trace_answer else {
+        return refused(trace_number(trace_answer));
+    };
+    if words.len() < 4096 {
+        return refused(15);
+    }
+    let nodes = node_part(sheet, count);
+    node_table(nodes, count, trace, n, m, node, p0, p1, p2, words)
+}
