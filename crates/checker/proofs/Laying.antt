@@ -140,3 +140,11 @@ place-least {nodes} {trace} {reach} {stood} {words} {count} {n} {p0} {p1} {p2} t
     ∙ gathered-short (task .thirds) p0 p1 p2 l (f .third) t b e o h)
     (λ b e o h. fresh n answers (λ b e. over0 (task .rest) n (standing p0 p1 p2) (replyOn nodes trace (task .reply) (task .replies) b e)) few a₂ b e o h)
     (kindOf (task .kind)) r least
+
+-- the first fill, every name on cycle 0
+pub laid-first : {nodes trace reach words words′ : List ℕ} {count n : ℕ} → Ready nodes count trace n reach 0 0 0 words
+    → Tables (nodeAt nodes) count (cyclesOf trace) (standing 0 0 0) words′ → length words′ ≡ length words
+    → Laid nodes count trace n reach (replicate 3 0) words′
+laid-first r t e =
+    let some = r .given .some-cycles in
+    record { three = omega arith; ready = ready-at r (omega arith) (omega arith) (omega arith) e; tables = t }

@@ -10,3 +10,6 @@ pub mod Refusals
 pub mod Opened
 pub mod Copies
 pub mod Whole
+pub mod Verdicts
+pub mod Clauses
+pub mod Checked

@@ -6,3 +6,4 @@ pub mod Loops
 pub mod Task
 pub mod Laid
 pub mod Table
+pub mod Check

@@ -1,4 +1,5 @@
 // The check and its verdict; the table.
+pub mod check;
 pub mod gather;
 pub mod parts;
 pub mod place;

@@ -1,0 +1,123 @@
+-- The verdict from the first failing assumption and the first failing commitment.
+use Prim.Native.Nat.{ℕ, zero, suc, _+_, _*_, _/_, _%_, _≤_, _<_}
+use native.Mathlib.Omega.{arith}
+use mathlib.Core.Bool.{Bool, true, false, cond, _&&_, true≢false}
+use mathlib.Core.List.{List, [], _∷_}
+use mathlib.Core.Logic.{_⊎_, inl, inr}
+use native.Mathlib.Nat.{eq-or-lt-of-le}
+use mathlib.Core.Path.{_≡_, refl, sym, ap, _∙_}
+use lib.Dec.{eqb, ltb}
+use lib.ListN.{length}
+use borrow.Author.Tests.{eq-eqb, ne-eqb, lt-ltb}
+use Rattle.semantics.specs.Proposition.{Trace}
+use Rattle.semantics.specs.Clause.{Role, assumption, commitment, Clause, breaks, fails}
+use Rattle.semantics.specs.Verdict as semantics
+use Rattle.semantics.specs.Verdict.{sameRole, hasRole, failsAs, firstPlace, excusedOr, brokenOr, verdict}
+use Rattle.semantics.proofs.Tests.{and-intro, and-false-left, and-false-right}
+use Rattle.stored.specs.declared.Node.{Node}
+use Rattle.stored.specs.declared.StoredClause.{StoredClause}
+use Rattle.stored.specs.Bytes.{inOrder}
+use Rattle.stored.specs.Clause.{clauseOf, roleOf}
+use Rattle.checker.specs.declared.check.Answer.{Answer}
+use Rattle.checker.specs.declared.check.Answer.the-variants.{Excused, Broken, Holds}
+use Rattle.checker.specs.Places.{places, numbered, IsLeast}
+use Rattle.checker.specs.Check.{told, First, placeOf}
+use Rattle.checker.proofs.Places.{fails-least, place-least}
+
+-- ---- the first failing clause of a list in order
+excused-none : (from n : ℕ) (f : ℕ → Clause) (σ : Trace) (v : semantics.Verdict) → ((k : ℕ) → k < n → failsAs assumption σ (f k) ≡ false)
+    → excusedOr from (inOrder n f) σ v ≡ v
+unfolding inOrder excusedOr
+excused-none from zero f σ v h = refl
+excused-none from (suc n) f σ v h = rw (h 0 (omega arith)) (excused-none (suc from) n (λ i. f (suc i)) σ v (λ k l. h (suc k) (omega arith)))
+
+excused-at : (from n : ℕ) (f : ℕ → Clause) (σ : Trace) (v : semantics.Verdict) (k : ℕ) → k < n → ((j : ℕ) → j < k → failsAs assumption σ (f j) ≡ false)
+    → failsAs assumption σ (f k) ≡ true → excusedOr from (inOrder n f) σ v ≡ semantics.Excused (from + k)
+unfolding inOrder excusedOr
+excused-at from zero f σ v k l h e = absurd (omega arith)
+excused-at from (suc n) f σ v zero l h e = let z : from ≡ from + 0 = omega arith in rw e (ap semantics.Excused z)
+excused-at from (suc n) f σ v (suc k) l h e =
+    let z : suc from + k ≡ from + suc k = omega arith in
+    rw (h 0 (omega arith)) (excused-at (suc from) n (λ i. f (suc i)) σ v k (omega arith) (λ j m. h (suc j) (omega arith)) e ∙ ap semantics.Excused z)
+
+broken-none : (from n : ℕ) (f : ℕ → Clause) (σ : Trace) (v : semantics.Verdict) → ((k : ℕ) → k < n → failsAs commitment σ (f k) ≡ false)
+    → brokenOr from (inOrder n f) σ v ≡ v
+unfolding inOrder brokenOr
+broken-none from zero f σ v h = refl
+broken-none from (suc n) f σ v h = rw (h 0 (omega arith)) (broken-none (suc from) n (λ i. f (suc i)) σ v (λ k l. h (suc k) (omega arith)))
+
+broken-at : (from n : ℕ) (f : ℕ → Clause) (σ : Trace) (v : semantics.Verdict) (k : ℕ) → k < n → ((j : ℕ) → j < k → failsAs commitment σ (f j) ≡ false)
+    → failsAs commitment σ (f k) ≡ true → brokenOr from (inOrder n f) σ v ≡ semantics.Broken (firstPlace (from + k) (length σ) (breaks (f k) σ))
+unfolding inOrder brokenOr
+broken-at from zero f σ v k l h e = absurd (omega arith)
+broken-at from (suc n) f σ v zero l h e =
+    let z : from ≡ from + 0 = omega arith in
+    rw e (ap (λ (c : ℕ). semantics.Broken (firstPlace c (length σ) (breaks (f 0) σ))) z)
+broken-at from (suc n) f σ v (suc k) l h e =
+    let z : suc from + k ≡ from + suc k = omega arith in
+    rw (h 0 (omega arith))
+    (broken-at (suc from) n (λ i. f (suc i)) σ v k (omega arith) (λ j m. h (suc j) (omega arith)) e
+    ∙ ap (λ (c : ℕ). semantics.Broken (firstPlace c (length σ) (breaks (f (suc k)) σ))) z)
+
+module _ (f : ℕ → Clause) (c : ℕ) (σ : Trace) where
+  pub verdict-excused : (k place : ℕ) → First assumption f c σ k place → Excused k ≡ told (verdict (inOrder c f) σ)
+  unfolding verdict told
+  verdict-excused k place w =
+      let z : 0 + k ≡ k = omega arith in
+      sym (ap told (excused-at 0 c f σ (brokenOr 0 (inOrder c f) σ semantics.Holds) k (w .below) (w .before) (w .fails) ∙ ap semantics.Excused z))
+
+  pub verdict-broken : (k place : ℕ) → length σ ≤ 64 → ((j : ℕ) → j < c → failsAs assumption σ (f j) ≡ false) → First commitment f c σ k place
+      → Broken (placeOf k place) ≡ told (verdict (inOrder c f) σ)
+  unfolding verdict told placeOf
+  verdict-broken k place short h w =
+      let z : 0 + k ≡ k = omega arith in
+      sym (ap told
+      (excused-none 0 c f σ (brokenOr 0 (inOrder c f) σ semantics.Holds) h
+      ∙ broken-at 0 c f σ semantics.Holds k (w .below) (w .before) (w .fails)
+      ∙ ap (λ (n : ℕ). semantics.Broken (firstPlace n (length σ) (breaks (f k) σ))) z
+      ∙ ap semantics.Broken (place-least (f k) σ short place (w .least) k (w .found))))
+
+  pub verdict-holds : ((j : ℕ) → j < c → failsAs assumption σ (f j) ≡ false) → ((j : ℕ) → j < c → failsAs commitment σ (f j) ≡ false)
+      → Holds ≡ told (verdict (inOrder c f) σ)
+  unfolding verdict told
+  verdict-holds h g =
+      sym (ap told (excused-none 0 c f σ (brokenOr 0 (inOrder c f) σ semantics.Holds) h ∙ broken-none 0 c f σ semantics.Holds g))
+
+-- ---- one clause
+role-of : (x : ℕ → Node) (d : StoredClause) (role : ℕ) → role ≤ 1 → d .role ≤ 1 → hasRole (roleOf role) (clauseOf x d) ≡ eqb (d .role) role
+unfolding hasRole sameRole clauseOf roleOf
+role-of x d role h l = go role (d .role) h l
+  where
+    go : (r e : ℕ) → r ≤ 1 → e ≤ 1 → sameRole (roleOf r) (roleOf e) ≡ eqb e r
+    go zero zero h l = refl
+    go zero (suc zero) h l = refl
+    go zero (suc (suc e)) h l = absurd (omega arith)
+    go (suc zero) zero h l = refl
+    go (suc zero) (suc zero) h l = refl
+    go (suc zero) (suc (suc e)) h l = absurd (omega arith)
+    go (suc (suc r)) e h l = absurd (omega arith)
+
+module _ (x : ℕ → Node) (d : StoredClause) (role : ℕ) (h : role ≤ 1) (l : d .role ≤ 1) (σ : Trace) where
+  -- another role
+  pub other-role : (d .role ≡ role → ⊥) → failsAs (roleOf role) σ (clauseOf x d) ≡ false
+  unfolding failsAs
+  other-role ne = and-false-left (hasRole (roleOf role) (clauseOf x d)) (fails (clauseOf x d) σ) (role-of x d role h l ∙ ne-eqb (d .role) role ne)
+
+  module _ (short : length σ ≤ 64) (r : ℕ) (least : IsLeast (numbered (length σ) (breaks (clauseOf x d) σ)) r) where
+    pub no-place : places ≤ r → failsAs (roleOf role) σ (clauseOf x d) ≡ false
+    unfolding failsAs
+    no-place m =
+        and-false-right (hasRole (roleOf role) (clauseOf x d)) (fails (clauseOf x d) σ)
+        (fails-least (clauseOf x d) σ short r least ∙ borrow.Author.Tests.le-ltb r places m)
+
+    pub some-place : d .role ≡ role → r < places → failsAs (roleOf role) σ (clauseOf x d) ≡ true
+    unfolding failsAs
+    some-place e m =
+        and-intro (hasRole (roleOf role) (clauseOf x d)) (fails (clauseOf x d) σ) (role-of x d role h l ∙ eq-eqb (d .role) role e)
+        (fails-least (clauseOf x d) σ short r least ∙ lt-ltb r places m)
+
+-- one more clause that does not fail
+pub one-more : (p : ℕ → Bool) (k : ℕ) → ((j : ℕ) → j < k → p j ≡ false) → p k ≡ false → (j : ℕ) → j < k + 1 → p j ≡ false
+one-more p k f e j h =
+    let o : j ≤ k = omega arith in
+    elim (eq-or-lt-of-le o) [ inl q ↦ rw q e | inr l ↦ f j l ]
