@@ -1,0 +1,4 @@
+// What the programs print, from the bytes that they read.
+pub mod input;
+pub mod page;
+pub mod text;
