@@ -1,0 +1,339 @@
+-- From the bytes written to what translate promises.
+use Prim.Native.Nat.{ℕ, zero, suc, _+_, _-_, _*_, _≤_, _<_}
+use mathlib.Core.Bool.{Bool, true, false, cond, _&&_}
+use mathlib.Core.List.{List}
+use mathlib.Core.Path.{_≡_, refl, sym, _∙_, ap, ap₂, subst}
+use native.Mathlib.Omega.{arith}
+use borrow.Author.Tests.{le-leb, eq-eqb, eqb-true, ne-eqb, lt-ltb, le-ltb}
+use lib.Dec.{leb, ltb, eqb}
+use lib.ListN.{length, getD, take, drop, length-take}
+use Rattle.semantics.specs.Proposition.{Trace}
+use Rattle.semantics.specs.Formula.{Formula, trueOf}
+use Rattle.semantics.specs.Placement.{noNames}
+use Rattle.semantics.specs.Reach.{within}
+use Rattle.semantics.specs.Cycles.{countBelow}
+use Rattle.semantics.specs.Translation.{translation}
+use Rattle.semantics.proofs.Agreement.{agreement}
+use Rattle.semantics.proofs.Tests.{and-intro}
+use Rattle.stored.specs.declared.Node.{Node}
+use Rattle.stored.specs.declared.Header.{Header}
+use Rattle.stored.specs.declared.SheetAnswer.{SheetAnswer}
+use Rattle.stored.specs.Bytes.{word, part, everyBelow, framedFrom}
+use Rattle.stored.specs.Node.{emittedSorts, sortOf, sortBelow, nodeAt, nodeRight, fieldsRight, operandsRight, isFormulaNode}
+use Rattle.stored.specs.Tree.{pick, formulaAt}
+use Rattle.stored.specs.Sheet.{headerOf, clausesStart, sheetEnd, nodePart, clausePart, nodesOf, storedOf, framed, versioned, sized, sheetRefusal, sheetAnswer, sheetNumber, clauseIn, clausesOf, requirementOf}
+use Rattle.stored.specs.Emitted.{ofKindTwo, emittedCounted, rootOf, emittedFormula, emittedNodes, emittedOperands, isEmitted, emittedTrue}
+use Rattle.stored.specs.Written.{nodeIn, putHeader, emittedHeader}
+use Rattle.stored.proofs.Rules.{every-all}
+use Rattle.stored.proofs.Tree.{formula-agree}
+use Rattle.stored.proofs.Written.{header-length, header-back, header-byte, header-read, header-rest, nodes-in, taken-byte, taken-header, taken-node}
+use Rattle.stored.proofs.Emitted.{Emitted, emitted-made}
+use Rattle.stored.proofs.Accepted.{Opened, Counts, length-nodes, length-clauses, accepted-fits, answer-accepted}
+use Rattle.stored.proofs.Both.{answer-refused}
+use Rattle.translator.specs.declared.TranslateAnswer.{TranslateAnswer}
+use Rattle.translator.specs.declared.TranslateAnswer.the-variants.{Written, Refused}
+use Rattle.translator.specs.Answer.{translateRefusal, translateAnswer, translateNumber, writtenLength}
+use Rattle.translator.specs.Bound.{drawings, nodeBound}
+use Rattle.translator.specs.Translated.{FormulaOf, Translated}
+use Rattle.translator.specs.Emission.{mostNodes, count, formulaIn, Good, Step, Has, Emits}
+use Rattle.translator.specs.Copying.{copyCosts, NodesIn, ClausesIn, clauseAt, clausesAt, requirementCost}
+use Rattle.translator.proofs.Steps.{steps, operands-same}
+use Rattle.translator.proofs.Joining.{joined-bound}
+use Rattle.translator.proofs.Closed.{translation-closed}
+
+-- ---- an empty kind 2 sheet
+module _ (x y : List ℕ) (s m : ℕ) (big : 8192 ≤ length x) (e : y ≡ putHeader x s m 0) where
+  head : headerOf y ≡ record { signals = s; names = m; nodes = 0; clauses = 0 }
+  head = ap headerOf e ∙ header-read x s m 0 (omega arith)
+
+  pub empty-count : count y ≡ 0
+  empty-count = ap (λ (h : Header). h .nodes) head
+
+  pub empty-signals : headerOf y .signals ≡ s
+  empty-signals = ap (λ (h : Header). h .signals) head
+
+  pub empty-names : headerOf y .names ≡ m
+  empty-names = ap (λ (h : Header). h .names) head
+
+  pub empty-length : length y ≡ length x
+  empty-length = ap length e ∙ header-length x s m 0
+
+  pub empty-good : 1 ≤ s → s ≤ 16 → m ≤ 3 → Good y
+  unfolding emittedHeader
+  empty-good some few three =
+      let none = empty-count in
+      let signals = empty-signals in
+      let names = empty-names in
+      let size = empty-length in
+      record {
+        long = omega arith;
+        rest = ap (λ (l : List ℕ). word l 0) e ∙ header-rest x s m 0 (omega arith) ∙ ap (λ (n : ℕ). 7 + 6 * n) (sym none);
+        version = ap (λ (l : List ℕ). getD l 2 0) e ∙ header-byte x s m 0 (omega arith) 2 (omega arith);
+        kind = ap (λ (l : List ℕ). getD l 3 0) e ∙ header-byte x s m 0 (omega arith) 3 (omega arith);
+        some-signals = omega arith;
+        few-signals = omega arith;
+        few-names = omega arith;
+        no-clauses = ap (λ (h : Header). h .clauses) head;
+        few-nodes = omega arith;
+        nodes-right = λ i l. absurd (omega arith);
+        operands-right = λ i l. absurd (omega arith);
+      }
+
+-- ---- an accepted sheet's parts
+module _ (s : List ℕ) (o : Opened s) (y : List ℕ) (signals : headerOf y .signals ≡ headerOf s .signals) (names : headerOf y .names ≡ headerOf s .names) where
+  pub nodes-in-sheet : NodesIn y (nodePart s) (headerOf s .nodes)
+  unfolding nodesOf
+  nodes-in-sheet =
+      record {
+        few = o .in-range .few-nodes;
+        inside = omega (arith, length-nodes s o);
+        fields = λ i l. rw (signals, names) (o .nodes-kept .fields i l);
+        operands = λ i l. o .nodes-kept .operands-kept i l;
+      }
+
+  pub clauses-in-sheet : ClausesIn y (nodePart s) (headerOf s .nodes) (clausePart s) (headerOf s .clauses)
+  unfolding nodesOf storedOf
+  clauses-in-sheet =
+      record {
+        few = o .in-range .few-clauses;
+        inside = omega (arith, length-clauses s o);
+        right = λ k l. o .clause-right k l;
+        named = λ k l. rw names (o .clause-named k l);
+      }
+
+clauses-same : (s : List ℕ) → clausesAt (nodePart s) (clausePart s) (headerOf s .clauses) ≡ clausesOf s
+unfolding clausesAt clauseAt clausesOf clauseIn nodesOf storedOf
+clauses-same s = refl
+
+-- ---- a finished sheet, cut to its length
+module _ (y : List ℕ) (r : ℕ) (f : Formula) (good : Good y) (has : Has y r f) (last : count y ≡ r + 1) (closed : within noNames f ≡ true) where
+  fits : 15 + 6 * r ≤ length y
+  fits = omega (arith, good .few-nodes, good .long)
+
+  pub cut-length : length (take (15 + 6 * r) y) ≡ 15 + 6 * r
+  cut-length = simp length-take (omega (arith, fits))
+
+  pub cut-header : headerOf (take (15 + 6 * r) y) ≡ headerOf y
+  cut-header = taken-header (15 + 6 * r) y (omega arith)
+
+  cut-node : (i : ℕ) → i < count y → nodesOf (take (15 + 6 * r) y) i ≡ nodeIn y i
+  cut-node i l =
+      nodes-in (take (15 + 6 * r) y) i (rw cut-header l) ∙ taken-node (15 + 6 * r) y i (omega arith)
+
+  cut-word : word (take (15 + 6 * r) y) 0 ≡ word y 0
+  unfolding word
+  cut-word = rw (taken-byte (15 + 6 * r) y 0 (omega arith), taken-byte (15 + 6 * r) y (0 + 1) (omega arith))
+
+  root-is : rootOf (take (15 + 6 * r) y) ≡ r
+  unfolding rootOf
+  root-is = rw cut-header (omega arith)
+
+  pub cut-formula : emittedFormula (take (15 + 6 * r) y) ≡ f
+  unfolding emittedFormula formulaIn
+  cut-formula =
+      ap (formulaAt (nodesOf (take (15 + 6 * r) y))) root-is
+      ∙ formula-agree (nodesOf (take (15 + 6 * r) y)) (nodeIn y) r (λ k l. cut-node k (omega arith))
+      ∙ has .tree
+
+  is-cut-framed : framed (take (15 + 6 * r) y) ≡ true
+  unfolding framed framedFrom
+  is-cut-framed =
+      let size = cut-length in
+      let rest = cut-word in
+      let told = good .rest in
+      let long : 9 ≤ length (take (15 + 6 * r) y) = omega arith in
+      let told : word (take (15 + 6 * r) y) 0 ≡ length (take (15 + 6 * r) y) - 2 = omega arith in
+      and-intro _ _ (le-leb _ _ long) (eq-eqb _ _ told)
+
+  is-cut-counted : emittedCounted (headerOf (take (15 + 6 * r) y)) ≡ true
+  unfolding emittedCounted
+  is-cut-counted =
+      rw cut-header
+      (and-intro _ _ (and-intro _ _ (le-leb _ _ (good .some-signals)) (le-leb _ _ (good .few-signals)))
+      (and-intro _ _ (le-leb _ _ (good .few-names)) (and-intro _ _ (le-leb 1 (count y) (omega arith)) (eq-eqb _ _ (good .no-clauses)))))
+
+  is-cut-sized : sized (take (15 + 6 * r) y) ≡ true
+  unfolding sized sheetEnd
+  is-cut-sized =
+      rw cut-header
+      (eq-eqb (length (take (15 + 6 * r) y)) (9 + 6 * headerOf y .nodes + 11 * headerOf y .clauses) (omega (arith, cut-length, good .no-clauses)))
+
+  is-root : isFormulaNode emittedSorts (nodesOf (take (15 + 6 * r) y)) (headerOf (take (15 + 6 * r) y) .nodes) (rootOf (take (15 + 6 * r) y)) ≡ true
+  unfolding isFormulaNode sortBelow
+  is-root =
+      rw (root-is, cut-header)
+      (rw (lt-ltb r (count y) (omega arith)) (eq-eqb _ _ (ap (λ (n : Node). sortOf emittedSorts (n .op)) (cut-node r (omega arith)) ∙ has .sorted)))
+
+  pub is-emitted : isEmitted (take (15 + 6 * r) y) ≡ true
+  unfolding versioned ofKindTwo emittedNodes emittedOperands nodeRight
+  is-emitted =
+      emitted-made (take (15 + 6 * r) y)
+      (record {
+        is-framed = is-cut-framed;
+        is-versioned = eq-eqb _ _ (taken-byte (15 + 6 * r) y 2 (omega arith) ∙ good .version);
+        of-kind-two = eq-eqb _ _ (taken-byte (15 + 6 * r) y 3 (omega arith) ∙ good .kind);
+        is-counted = is-cut-counted;
+        is-sized = is-cut-sized;
+        nodes-right =
+            every-all _ _
+            (λ i l.
+            let below : i < count y = rw cut-header at l in
+            rw (cut-header, cut-node i below) (good .nodes-right i below));
+        operands-right =
+            every-all _ _
+            (λ i l.
+            let below : i < count y = rw cut-header at l in
+            operands-same (nodeIn y) (nodesOf (take (15 + 6 * r) y)) i (λ k q. cut-node k (omega arith)) ∙ good .operands-right i below);
+        root-formula = is-root;
+        root-closed = ap (within noNames) cut-formula ∙ closed;
+      })
+
+-- ---- the whole run
+module _ (s x y₀ y₁ y₂ : List ℕ) (r : ℕ) (o : Opened s) (big : 8192 ≤ length x)
+    (e₀ : y₀ ≡ putHeader x (headerOf s .signals) (headerOf s .names) 0)
+    (s₁ : Step y₀ y₁ (3 + 2 * headerOf s .names))
+    (e₂ : Emits y₁ y₂ r (requirementCost (nodePart s) (headerOf s .nodes) (headerOf s .clauses) (headerOf y₁ .names)) (translation (clausesAt (nodePart s) (clausePart s) (headerOf s .clauses))))
+    (last : count y₂ ≡ r + 1) where
+  closed : within noNames (translation (clausesAt (nodePart s) (clausePart s) (headerOf s .clauses))) ≡ true
+  closed = rw (clauses-same s) (translation-closed (clausesOf s) (accepted-fits s o))
+
+  good₂ : Good y₂
+  good₂ = e₂ .step .good
+
+  names-same : headerOf y₂ .names ≡ headerOf s .names
+  names-same = e₂ .step .names ∙ s₁ .names ∙ empty-names x y₀ (headerOf s .signals) (headerOf s .names) big e₀
+
+  signals-same : headerOf y₂ .signals ≡ headerOf s .signals
+  signals-same = e₂ .step .signals ∙ s₁ .signals ∙ empty-signals x y₀ (headerOf s .signals) (headerOf s .names) big e₀
+
+  bounded : count y₂ ≤ nodeBound s
+  unfolding nodeBound drawings requirementCost copyCosts nodesOf
+  bounded =
+      let m₁ = s₁ .names ∙ empty-names x y₀ (headerOf s .signals) (headerOf s .names) big e₀ in
+      omega (
+        arith,
+        e₂ .step .few,
+        s₁ .few,
+        empty-count x y₀ (headerOf s .signals) (headerOf s .names) big e₀,
+        ap (λ (m : ℕ). headerOf s .clauses * (11 + 6 * m)) m₁,
+        joined-bound (headerOf s .clauses) (headerOf s .names) (o .in-range .some-clauses) (o .in-range .few-names),
+      )
+
+  pub formula-written : FormulaOf s (take (15 + 6 * r) y₂)
+  unfolding emittedTrue requirementOf
+  formula-written =
+      let h = cut-header y₂ r _ good₂ (e₂ .has) last closed in
+      record {
+        form = is-emitted y₂ r _ good₂ (e₂ .has) last closed;
+        signals = ap (λ (g : Header). g .signals) h ∙ signals-same;
+        names = ap (λ (g : Header). g .names) h ∙ names-same;
+        bound = rw h bounded;
+        agreement =
+            λ σ positive.
+            ap (λ (f : Formula). trueOf f σ) (cut-formula y₂ r _ good₂ (e₂ .has) last closed ∙ ap translation (clauses-same s))
+            ∙ agreement σ positive (clausesOf s) (accepted-fits s o);
+      }
+
+  pub length-written : length (take (15 + 6 * r) y₂) ≡ 15 + 6 * r
+  length-written = cut-length y₂ r _ good₂ (e₂ .has) last closed
+
+  pub later-kept : drop (15 + 6 * r) y₂ ≡ drop (15 + 6 * r) x
+  later-kept =
+      steps s₁ (e₂ .step) .back (15 + 6 * r) (omega arith)
+      ∙ ap (drop (15 + 6 * r)) e₀
+      ∙ header-back x (headerOf s .signals) (headerOf s .names) 0 (15 + 6 * r) (omega arith)
+
+  pub size-kept : length y₂ ≡ length x
+  size-kept = steps s₁ (e₂ .step) .size ∙ empty-length x y₀ (headerOf s .signals) (headerOf s .names) big e₀
+
+-- ---- the three outcomes
+-- an answer has the number that applies
+pub number-told : {s x y : List ℕ} {r : TranslateAnswer} → Translated s x y r → translateNumber r ≡ translateRefusal s (length x)
+unfolding translateAnswer translateNumber pick
+number-told {s} {x} {r = r} t = ap translateNumber (t .answer) ∙ go (translateRefusal s (length x)) (eqb (translateRefusal s (length x)) 0) refl
+  where
+    go : (k : ℕ) (b : Bool) → eqb k 0 ≡ b → translateNumber (pick b (Written (writtenLength r)) (Refused k)) ≡ k
+    go k true e = sym (eqb-true k 0 e)
+    go k false e = refl
+
+refused-law : (s x : List ℕ) (k : ℕ) → translateRefusal s (length x) ≡ k → (k ≡ 0 → ⊥) → Translated s x x (Refused k)
+unfolding translateAnswer writtenLength pick
+refused-law s x k e some =
+    record {
+      answer = rw (e, ne-eqb k 0 some);
+      size = refl;
+      unchanged = λ h. refl;
+      formula = λ h. absurd (some (sym e ∙ h));
+      long = λ h. absurd (some (sym e ∙ h));
+      later = λ h. absurd (some (sym e ∙ h));
+    }
+
+pub sheet-refused : (s x : List ℕ) (answer : SheetAnswer) (k : ℕ) → answer ≡ sheetAnswer s → answer ≡ SheetAnswer.Refused k → Translated s x x (Refused (sheetNumber answer))
+unfolding translateRefusal sheetNumber
+sheet-refused s x answer k told e =
+    let r = answer-refused s k (sym told ∙ e) in
+    rw e (refused-law s x k (rw (r .0) (r .1)) (λ z. borrow.Author.Tests.eqb-false (sheetRefusal s) 0 (r .0) (r .1 ∙ z)))
+
+module _ (s x : List ℕ) (answer : SheetAnswer) (h : Header) (told : answer ≡ sheetAnswer s) (taken : answer ≡ SheetAnswer.Accepted h) where
+  no-number : sheetRefusal s ≡ 0
+  no-number = answer-accepted s h (sym told ∙ taken) .0
+
+  pub header-is : headerOf s ≡ h
+  header-is = answer-accepted s h (sym told ∙ taken) .1
+
+  pub opened-sheet : Opened s
+  opened-sheet = Rattle.stored.proofs.Accepted.opened s no-number
+
+  pub output-refused : length x < 8192 → Translated s x x (Refused 14)
+  unfolding translateRefusal
+  output-refused l = refused-law s x 14 (rw (no-number, lt-ltb (length x) 8192 l)) (λ z. omega arith)
+
+  pub translated : (y : List ℕ) (l : ℕ) → 8192 ≤ length x → length y ≡ length x → FormulaOf s (take l y) → length (take l y) ≡ l → drop l y ≡ drop l x → Translated s x y (Written l)
+  unfolding translateRefusal translateAnswer writtenLength pick
+  translated y l big size formula long later =
+      let none : translateRefusal s (length x) ≡ 0 = rw (no-number, le-ltb (length x) 8192 big) in
+      record {
+        answer = rw none;
+        size = size;
+        unchanged = λ z. absurd (z none);
+        formula = λ z. formula;
+        long = λ z. long;
+        later = λ z. later;
+      }
+
+-- the run by the header that was read: header, shared nodes, requirement
+pub record Run (s x : List ℕ) (h : Header) (y : List ℕ) (r : ℕ) : Type 0 where
+  pub y₀ : List ℕ
+  pub y₁ : List ℕ
+  pub headed : y₀ ≡ putHeader x (h .signals) (h .names) 0
+  pub shared : Step y₀ y₁ (3 + 2 * h .names)
+  pub required :
+      Emits y₁ y r
+      (requirementCost (part 9 (9 + 6 * h .nodes) s) (h .nodes) (h .clauses) (headerOf y₁ .names))
+      (translation (clausesAt (part 9 (9 + 6 * h .nodes) s) (part (9 + 6 * h .nodes) (9 + 6 * h .nodes + 11 * h .clauses) s) (h .clauses)))
+  pub last : count y ≡ r + 1
+
+pub run-translated : (s x : List ℕ) (answer : SheetAnswer) (h : Header) → answer ≡ sheetAnswer s → answer ≡ SheetAnswer.Accepted h → (y : List ℕ) (r : ℕ) → 8192 ≤ length x → Run s x h y r → Translated s x y (Written (15 + 6 * r))
+unfolding nodePart clausePart clausesStart sheetEnd
+run-translated s x answer h told taken y r big run =
+    let o = opened-sheet s x answer h told taken in
+    let u : Run s x (headerOf s) y r = subst (λ (g : Header). Run s x g y r) (sym (header-is s x answer h told taken)) run in
+    translated s x answer h told taken y (15 + 6 * r) big
+    (size-kept s x (u .y₀) (u .y₁) y r o big (u .headed) (u .shared) (u .required) (u .last))
+    (formula-written s x (u .y₀) (u .y₁) y r o big (u .headed) (u .shared) (u .required) (u .last))
+    (length-written s x (u .y₀) (u .y₁) y r o big (u .headed) (u .shared) (u .required) (u .last))
+    (later-kept s x (u .y₀) (u .y₁) y r o big (u .headed) (u .shared) (u .required) (u .last))
+
+-- the parts of an accepted sheet, by the header that was read
+module _ (s : List ℕ) (h : Header) (e : headerOf s ≡ h) (o : Opened s) (y : List ℕ) (signals : headerOf y .signals ≡ h .signals) (names : headerOf y .names ≡ h .names) where
+  pub nodes-read : NodesIn y (part 9 (9 + 6 * h .nodes) s) (h .nodes)
+  unfolding nodePart clausesStart
+  nodes-read =
+      subst (λ (g : Header). NodesIn y (part 9 (9 + 6 * g .nodes) s) (g .nodes)) e
+      (nodes-in-sheet s o y (signals ∙ ap (λ (g : Header). g .signals) (sym e)) (names ∙ ap (λ (g : Header). g .names) (sym e)))
+
+  pub clauses-read : ClausesIn y (part 9 (9 + 6 * h .nodes) s) (h .nodes) (part (9 + 6 * h .nodes) (9 + 6 * h .nodes + 11 * h .clauses) s) (h .clauses)
+  unfolding nodePart clausePart clausesStart sheetEnd
+  clauses-read =
+      subst (λ (g : Header). ClausesIn y (part 9 (9 + 6 * g .nodes) s) (g .nodes) (part (9 + 6 * g .nodes) (9 + 6 * g .nodes + 11 * g .clauses) s) (g .clauses)) e
+      (clauses-in-sheet s o y (signals ∙ ap (λ (g : Header). g .signals) (sym e)) (names ∙ ap (λ (g : Header). g .names) (sym e)))

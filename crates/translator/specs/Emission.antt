@@ -1,0 +1,134 @@
+-- What the emitting functions promise one another. The writer's whole state is in the lent bytes: bytes 6–7 count the nodes so far.
+use Prim.Native.Nat.{ℕ, _+_, _*_, _^_, _≤_, _<_}
+use mathlib.Core.Bool.{Bool, true, cond}
+use mathlib.Core.List.{List}
+use mathlib.Core.Path.{_≡_}
+use lib.Dec.{ltb}
+use lib.ListN.{length, getD, drop}
+use Rattle.semantics.specs.Proposition.{Proposition, name, bit}
+use Rattle.semantics.specs.Formula.{Formula, equal, scount}
+use Rattle.semantics.specs.Translation.{anywhere, extended, nothing}
+use Rattle.stored.specs.declared.Node.{Node}
+use Rattle.stored.specs.declared.Header.{Header}
+use Rattle.stored.specs.Bytes.{word}
+use Rattle.stored.specs.Node.{emittedSorts, sortOf, aUse, bUse, fieldsRight, operandRight, operandsRight}
+use Rattle.stored.specs.Tree.{propositionAt, formulaAt}
+use Rattle.stored.specs.Clause.{partsUsed}
+use Rattle.stored.specs.Sheet.{headerOf}
+use Rattle.stored.specs.Written.{nodeIn, NodeFits}
+
+-- as many nodes as 8,192 bytes hold
+abbrev pub mostNodes : ℕ
+mostNodes = 1363
+
+abbrev pub count : List ℕ → ℕ
+count y = headerOf y .nodes
+
+-- the proposition and the formula at node i
+unfoldable pub propositionIn : List ℕ → ℕ → Proposition
+propositionIn y i = propositionAt (nodeIn y) i
+
+unfoldable pub formulaIn : List ℕ → ℕ → Formula
+formulaIn y i = formulaAt (nodeIn y) i
+
+-- a kind 2 sheet that is being written: its header and its nodes so far are right
+pub record Good (y : List ℕ) : Type 0 where
+  pub long : 8192 ≤ length y
+  pub rest : word y 0 ≡ 7 + 6 * count y
+  pub version : getD y 2 0 ≡ 1
+  pub kind : getD y 3 0 ≡ 2
+  pub some-signals : 1 ≤ headerOf y .signals
+  pub few-signals : headerOf y .signals ≤ 16
+  pub few-names : headerOf y .names ≤ 3
+  pub no-clauses : headerOf y .clauses ≡ 0
+  pub few-nodes : count y ≤ mostNodes
+  pub nodes-right : (i : ℕ) → i < count y → fieldsRight emittedSorts (headerOf y .signals) (headerOf y .names) (nodeIn y i) ≡ true
+  pub operands-right : (i : ℕ) → i < count y → operandsRight emittedSorts (nodeIn y) i ≡ true
+
+-- bytes x became y by at most k new nodes; earlier nodes and the bytes after the last stay
+pub record Step (x y : List ℕ) (k : ℕ) : Type 0 where
+  pub more : count x ≤ count y
+  pub few : count y ≤ count x + k
+  pub size : length y ≡ length x
+  pub signals : headerOf y .signals ≡ headerOf x .signals
+  pub names : headerOf y .names ≡ headerOf x .names
+  pub same : (i : ℕ) → i < count x → nodeIn y i ≡ nodeIn x i
+  pub back : (t : ℕ) → 9 + 6 * count y ≤ t → drop t y ≡ drop t x
+  pub good : Good y
+
+-- node a is proposition p, or formula f
+pub record HasProposition (y : List ℕ) (a : ℕ) (p : Proposition) : Type 0 where
+  pub below : a < count y
+  pub sorted : sortOf emittedSorts (nodeIn y a .op) ≡ 1
+  pub tree : propositionIn y a ≡ p
+
+pub record Has (y : List ℕ) (a : ℕ) (f : Formula) : Type 0 where
+  pub below : a < count y
+  pub sorted : sortOf emittedSorts (nodeIn y a .op) ≡ 2
+  pub tree : formulaIn y a ≡ f
+
+-- node a is a formula
+abbrev pub Formed : List ℕ → ℕ → Type 0
+Formed y a = Has y a (formulaIn y a)
+
+abbrev pub FormedProposition : List ℕ → ℕ → Type 0
+FormedProposition y a = HasProposition y a (propositionIn y a)
+
+-- x became y by at most k new nodes, and node r is formula f, or proposition p
+pub record Emits (x y : List ℕ) (r k : ℕ) (f : Formula) : Type 0 where
+  pub step : Step x y k
+  pub has : Has y r f
+
+pub record EmitsProposition (x y : List ℕ) (r k : ℕ) (p : Proposition) : Type 0 where
+  pub step : Step x y k
+  pub has : HasProposition y r p
+
+-- node n may come next
+pub record Addable (y : List ℕ) (n : Node) : Type 0 where
+  pub good : Good y
+  pub room : count y < mostNodes
+  pub fits : NodeFits n
+  pub right : fieldsRight emittedSorts (headerOf y .signals) (headerOf y .names) n ≡ true
+  pub a-right : operandRight emittedSorts (nodeIn y) (count y) (aUse (n .op)) (n .a) ≡ true
+  pub b-right : operandRight emittedSorts (nodeIn y) (count y) (bUse (n .op)) (n .b) ≡ true
+
+-- it came, as node r
+pub record Added (x y : List ℕ) (r : ℕ) (n : Node) : Type 0 where
+  pub step : Step x y 1
+  pub exact : count y ≡ count x + 1
+  pub place : r ≡ count x
+  pub node : nodeIn y r ≡ n
+
+-- The nodes that are written once, at fixed numbers: anywhere, extended and nothing, and of each name below j the name and its one mark.
+pub record Shared (y : List ℕ) (j : ℕ) : Type 0 where
+  pub good : Good y
+  pub everywhere : Has y 0 anywhere
+  pub longer : Has y 1 extended
+  pub never : Has y 2 nothing
+  pub named : (u : ℕ) → u < j → HasProposition y (3 + 2 * u) (name u)
+  pub once : (u : ℕ) → u < j → Has y (4 + 2 * u) (scount equal (name u) 1)
+
+abbrev pub Ready : List ℕ → Type 0
+Ready y = Shared y (headerOf y .names)
+
+-- how many nodes `placedName` and `placed` take over the formula placed
+unfoldable pub placedCost : ℕ → ℕ → ℕ → ℕ
+placedCost u before names = cond (bit names u) (cond (bit before u) 1 2) 0
+
+unfoldable pub placedCosts : ℕ → ℕ → ℕ
+placedCosts before names = placedCost 2 before names + placedCost 1 before names + placedCost 0 before names
+
+-- a part: formula node f with the names of a mask
+pub record PartIn (y : List ℕ) (f mask : ℕ) : Type 0 where
+  pub root : Formed y f
+  pub small : mask < 2 ^ headerOf y .names
+
+-- the parts that a type uses
+pub record PartsIn (y : List ℕ) (kind f₁ m₁ f₂ m₂ f₃ m₃ : ℕ) : Type 0 where
+  pub part1 : ltb 0 (partsUsed kind) ≡ true → PartIn y f₁ m₁
+  pub part2 : ltb 1 (partsUsed kind) ≡ true → PartIn y f₂ m₂
+  pub part3 : ltb 2 (partsUsed kind) ≡ true → PartIn y f₃ m₃
+
+-- the most nodes a clause takes, without the `or` that joins it to the others
+unfoldable pub clauseCost : ℕ → ℕ
+clauseCost m = 10 + 6 * m

@@ -1,0 +1,32 @@
+-- The promise of translate: the translator's side of document 01's demand 3.
+use Prim.Native.Nat.{ℕ, _≤_, _<_}
+use mathlib.Core.Bool.{true}
+use mathlib.Core.List.{List}
+use mathlib.Core.Path.{_≡_}
+use lib.ListN.{length, take, drop}
+use Rattle.semantics.specs.Proposition.{Trace}
+use Rattle.stored.specs.Sheet.{headerOf, requirementOf}
+use Rattle.stored.specs.Emitted.{isEmitted, emittedTrue}
+use Rattle.translator.specs.declared.TranslateAnswer.{TranslateAnswer}
+use Rattle.translator.specs.Answer.{translateRefusal, translateAnswer, writtenLength}
+use Rattle.translator.specs.Bound.{nodeBound}
+
+-- y is an emitted formula for sheet s
+pub record FormulaOf (s y : List ℕ) : Type 0 where
+  -- a kind 2 sheet by its length field and counts, each node naming earlier nodes only, the root its last node, each name under its quantifier
+  pub form : isEmitted y ≡ true
+  pub signals : headerOf y .signals ≡ headerOf s .signals
+  pub names : headerOf y .names ≡ headerOf s .names
+  pub bound : headerOf y .nodes ≤ nodeBound s
+  -- true of exactly the lists of at least one cycle of which the requirement is
+  pub agreement : (σ : Trace) → 0 < length σ → emittedTrue y σ ≡ requirementOf s σ
+
+-- output bytes x became y, and the answer is r
+pub record Translated (s x y : List ℕ) (r : TranslateAnswer) : Type 0 where
+  pub answer : r ≡ translateAnswer (translateRefusal s (length x)) (writtenLength r)
+  pub size : length y ≡ length x
+  pub unchanged : (translateRefusal s (length x) ≡ 0 → ⊥) → y ≡ x
+  -- where no number applies: the formula, whose length is answered; later bytes keep their values
+  pub formula : translateRefusal s (length x) ≡ 0 → FormulaOf s (take (writtenLength r) y)
+  pub long : translateRefusal s (length x) ≡ 0 → length (take (writtenLength r) y) ≡ writtenLength r
+  pub later : translateRefusal s (length x) ≡ 0 → drop (writtenLength r) y ≡ drop (writtenLength r) x
