@@ -1,0 +1,35 @@
+use borrow.Author.Needs.{needs}
+use Rattle.sheets.proofs.Demand.{demand}
+use Rattle.sheets.proofs.translate_and_check.Statement.{statement}
+use Rattle.sheets.proofs.translate_and_check.Tie as tie
+use Rattle.sheets.proofs.translate_and_check.Reads as reads
+use Rattle.sheets.proofs.translate_and_check.Lts as lts
+use Rattle.checker.proofs.check.check.Reads as check-reads
+use Rattle.translator.proofs.translate.Reads as translate-reads
+
+-- src/lib.rt:26:9
+translate-requires : tie.Need-translate-requires
+translate-requires c κs = search needs
+
+-- src/lib.rt:27:9
+check-requires : tie.Need-check-requires
+check-requires c κs = search needs
+
+-- src/lib.rt:20:1
+same-length : tie.Need-same-length
+same-length c = search needs
+
+-- src/lib.rt:20:1
+same-length-2 : tie.Need-same-length-2
+same-length-2 c = search needs
+
+-- src/lib.rt:20:1
+returns : tie.Need-returns
+returns c =
+    let translated = c .before .before .before .before .before .before .translate .ensures in
+    let checked = c .before .before .check .ensures in
+    (translated, (checked .0, (checked .1, demand _ _ _ _ _ _ _ translated (checked .0))))
+
+pub translate-and-check-spec : {M : Type 1} → statement M
+translate-and-check-spec =
+    tie.close (tie.spec translate-requires check-requires same-length same-length-2 returns)
