@@ -49,14 +49,14 @@ answer-is input body s t node p0 p1 p2 end words b e f g h i j k l =
     ∙ rw (f, g, e, b, h, i, j, k)
 
 -- refusals are numbers below 100
-lowest-small : (k : ℕ) (rules : List Bool) → 0 < k → k + length rules ≤ 100 → lowest k rules < 100
+pub lowest-small : (k : ℕ) (rules : List Bool) → 0 < k → k + length rules ≤ 100 → lowest k rules < 100
 lowest-small k rules p h =
     elim (lowest-law k rules p .range) [
       | inl e ↦ omega arith
       | inr u ↦ (let most = u .1 in omega arith)
     ]
 
-or-small : (a b : ℕ) → a < 100 → b < 100 → orElse a b < 100
+pub or-small : (a b : ℕ) → a < 100 → b < 100 → orElse a b < 100
 unfolding orElse
 or-small a b p q = go (eqb a 0)
   where

@@ -1,3 +1,5 @@
--- Laws of texts.
+-- Laws of texts, lines and answers.
 pub mod Texts
 pub mod Answers
+pub mod Lines
+pub mod Bounds

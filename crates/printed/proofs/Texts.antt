@@ -33,18 +33,19 @@ refused-rest number k h =
     let e : 8 + (k - 8) ≡ k = omega arith in
     sym (getD-append-add refusedWord (decimalOf number ++ (10 ∷ [])) (k - 8) 0) ∙ ap (λ (j : ℕ). getD (refusedText number) j 0) e
 
-pub ended-at : (l : List ℕ) (j : ℕ) → j ≡ length l → 10 ≡ getD (l ++ (10 ∷ [])) j 0
-ended-at l j e = sym (ap (λ (k : ℕ). getD (l ++ (10 ∷ [])) k 0) e ∙ getD-append-seam l 10 [] 0)
+-- a text and one byte more
+pub ended-at : (l : List ℕ) (b j : ℕ) → j ≡ length l → b ≡ getD (l ++ (b ∷ [])) j 0
+ended-at l b j e = sym (ap (λ (k : ℕ). getD (l ++ (b ∷ [])) k 0) e ∙ getD-append-seam l b [] 0)
 
-pub ended-other : (l : List ℕ) (j : ℕ) → (j ≡ length l → ⊥) → getD l j 0 ≡ getD (l ++ (10 ∷ [])) j 0
-ended-other l j ne =
+pub ended-other : (l : List ℕ) (b j : ℕ) → (j ≡ length l → ⊥) → getD l j 0 ≡ getD (l ++ (b ∷ [])) j 0
+ended-other l b j ne =
     elim (test (ltb j (length l))) [
-      | inl e ↦ sym (List·getD-append l (10 ∷ []) 0 j (ltb-true j (length l) e))
+      | inl e ↦ sym (List·getD-append l (b ∷ []) 0 j (ltb-true j (length l) e))
       | inr e ↦ (
           let long = ltb-false j (length l) e in
-          let whole = length-append l (10 ∷ []) in
-          let past : length (l ++ (10 ∷ [])) ≤ j = omega arith in
-          List·getD-eq-default l 0 long ∙ sym (List·getD-eq-default (l ++ (10 ∷ [])) 0 past))
+          let whole = length-append l (b ∷ []) in
+          let past : length (l ++ (b ∷ [])) ≤ j = omega arith in
+          List·getD-eq-default l 0 long ∙ sym (List·getD-eq-default (l ++ (b ∷ [])) 0 past))
     ]
 
 pub table-byte : (rows : List ℕ) (number k : ℕ) → number ≡ 0 → k < 1088 → rowByte (getD rows (k / 17) 0) (k % 17) ≡ getD (textOf number rows) k 0

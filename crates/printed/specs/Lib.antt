@@ -1,3 +1,4 @@
 -- What the programs print.
 pub mod Input
 pub mod Text
+pub mod Line

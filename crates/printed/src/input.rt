@@ -28,3 +28,10 @@ pub fn split(input: &[u8]) -> usize
     let end = word_at(input, 0) + 2;
     if end < input.len() { end } else { input.len() }
 }
+
+// The words that a program lends.
+pub fn lent_words() -> [u64; 4096]
+    ensures { λ r. ⌜ 4096 ≡ length r ⌝ }
+{
+    [0; 4096]
+}

@@ -1,4 +1,5 @@
 // What the programs print, from the bytes that they read.
 pub mod input;
+pub mod line;
 pub mod page;
 pub mod text;

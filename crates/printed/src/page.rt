@@ -4,6 +4,7 @@ ghost use Prim.Native.Nat.{_+_, _<_, _≤_};
 ghost use lib.ListN.{length, drop};
 ghost use Rattle.printed.specs.Text.{textOf, pageOf, answerTo, printedFor};
 use crate::input::byte_at;
+use crate::input::lent_words;
 use crate::input::split;
 use crate::input::word_at;
 use crate::text::text_byte;
@@ -21,12 +22,6 @@ fn blank() -> [u8; 1088]
     ensures { λ r. ⌜ 1088 ≡ length r ⌝ }
 {
     [0; 1088]
-}
-
-fn lent_words() -> [u64; 4096]
-    ensures { λ r. ⌜ 4096 ≡ length r ⌝ }
-{
-    [0; 4096]
 }
 
 fn page_of(number: usize, rows: &[u64; 64]) -> Page

@@ -18,7 +18,7 @@ decimal-length-requires c κs = search needs
 returns-2 : tie.Need-returns-2
 returns-2 c =
     let a = c .before .before .before .args in
-    ended-at (decimalOf (a .number)) _ (c .if2 .taken ∙ c .before .decimal-length .ensures .0) ∙ refused-rest (a .number) (a .k) (c .before .before .if1 .left)
+    ended-at (decimalOf (a .number)) 10 _ (c .if2 .taken ∙ c .before .decimal-length .ensures .0) ∙ refused-rest (a .number) (a .k) (c .before .before .if1 .left)
 
 decimal-byte-requires : tie.Need-decimal-byte-requires
 decimal-byte-requires c κs = search needs
@@ -27,7 +27,7 @@ returns-3 : tie.Need-returns-3
 returns-3 c =
     let a = c .before .before .before .before .args in
     c .decimal-byte .ensures
-    ∙ ended-other (decimalOf (a .number)) _ (λ e. c .before .if2 .left (e ∙ sym (c .before .before .decimal-length .ensures .0)))
+    ∙ ended-other (decimalOf (a .number)) 10 _ (λ e. c .before .if2 .left (e ∙ sym (c .before .before .decimal-length .ensures .0)))
     ∙ refused-rest (a .number) (a .k) (c .before .before .before .if1 .left)
 
 pub refused-byte-spec : {M : Type 1} → statement M
