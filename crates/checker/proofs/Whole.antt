@@ -1,26 +1,20 @@
 -- The table operation from what reading the sheet and the trace answered.
-use Prim.Native.Nat.{ℕ, zero, suc, _+_, _*_, _≤_, _<_}
-use mathlib.Core.Bool.{Bool, true, false}
-use mathlib.Core.List.{List, [], _∷_}
-use mathlib.Core.Path.{_≡_, refl, sym, _∙_, ap, ap₂, subst}
-use native.Mathlib.Omega.{arith}
-use lib.Dec.{eqb}
+use Prim.Native.Nat.{ℕ, _≤_, _<_}
+use mathlib.Core.List.{List}
+use mathlib.Core.Path.{_≡_, sym, _∙_, ap}
 use lib.ListN.{length}
 use Rattle.stored.specs.declared.Header.{Header}
 use Rattle.stored.specs.declared.SheetAnswer.{SheetAnswer}
 use Rattle.stored.specs.declared.SheetAnswer.the-variants.{Accepted}
 use Rattle.stored.specs.declared.TraceAnswer.{TraceAnswer}
 use Rattle.stored.specs.declared.TraceAnswer.the-variants.{Cycles}
-use Rattle.stored.specs.Bytes.{part}
 use Rattle.stored.specs.Node.{nodeAt}
-use Rattle.stored.specs.Sheet.{headerOf, nodesStart, clausesStart, nodePart, nodesOf, sheetRefusal, sheetAnswer, sheetNumber}
+use Rattle.stored.specs.Sheet.{headerOf, nodePart, nodesOf, sheetRefusal, sheetAnswer, sheetNumber}
 use Rattle.stored.specs.Trace.{cycleCount, cyclesOf, traceRefusal, traceAnswer, traceNumber}
-use Rattle.stored.proofs.Accepted.{answer-accepted, open-answer, opened, trace-opened, cycles-accepted}
-use Rattle.tables.specs.Ready.{Given}
+use Rattle.stored.proofs.Accepted.{answer-accepted, cycles-accepted}
 use Rattle.checker.specs.declared.table.TableAnswer.{TableAnswer}
 use Rattle.checker.specs.Table.{placementOf, tableOf, nodeRefusal, answerFor, tableRefusal, tableAnswer, wordsAfter}
 use Rattle.checker.proofs.Refusals.{Refuses, sheet-number, sheet-refused, trace-number, trace-refused, by-sheet, by-trace, by-words, by-node}
-use Rattle.checker.proofs.Opened.{given-opened}
 
 module _ (s t : List ℕ) (node p0 p1 p2 : ℕ) (words : List ℕ) where
   pub sheet-refuses : (answer : SheetAnswer) (number k : ℕ) → answer ≡ sheetAnswer s → answer ≡ SheetAnswer.Refused k → number ≡ sheetNumber answer → Refuses s t node p0 p1 p2 words number
@@ -55,14 +49,6 @@ module _ (s t : List ℕ) (node p0 p1 p2 : ℕ) (words : List ℕ) where
     pub words-refuse : length words < 4096 → Refuses s t node p0 p1 p2 words 15
     words-refuse l = by-words s t node p0 p1 p2 words none-sheet none-trace l
 
-    pub given-read : (nodes : List ℕ) → 4096 ≤ length words → nodes ≡ part nodesStart (nodesStart + 6 * h .nodes) s → Given nodes (h .nodes) t n 0 0 0 words
-    unfolding nodePart clausesStart
-    given-read nodes l e =
-        subst (λ (w : List ℕ). Given w (h .nodes) t n 0 0 0 words) (sym e)
-        (subst (λ (k : ℕ). Given (part nodesStart (nodesStart + 6 * h .nodes) s) (h .nodes) t k 0 0 0 words) many
-        (subst (λ (g : Header). Given (part nodesStart (nodesStart + 6 * g .nodes) s) (g .nodes) t (cycleCount t) 0 0 0 words) same
-        (given-opened s t words (open-answer s h accepted) (trace-opened (headerOf s .signals) t none-trace) l)))
-
     -- the answer over the parts is the answer over the sheet
     Answer : List ℕ → ℕ → Header → TableAnswer
     Answer w k g =
@@ -72,28 +58,20 @@ module _ (s t : List ℕ) (node p0 p1 p2 : ℕ) (words : List ℕ) where
     After : List ℕ → ℕ → Header → List ℕ
     After w k g = wordsAfter (nodeRefusal (nodeAt w) (g .nodes) k (g .names) node p0 p1 p2) words
 
-    pub table-whole : (nodes new : List ℕ) (answer : TableAnswer) → 4096 ≤ length words → nodes ≡ part nodesStart (nodesStart + 6 * h .nodes) s
+    pub table-whole : (nodes new : List ℕ) (answer : TableAnswer) → 4096 ≤ length words → nodes ≡ nodePart s
         → answer ≡ answerFor (nodeRefusal (nodeAt nodes) (h .nodes) n (h .names) node p0 p1 p2) (tableOf (nodeAt nodes) (cyclesOf t) node (placementOf (h .names) p0 p1 p2))
         → new ≡ wordsAfter (nodeRefusal (nodeAt nodes) (h .nodes) n (h .names) node p0 p1 p2) words
         → (answer ≡ tableAnswer s t node p0 p1 p2 words) × (new ≡ wordsAfter (tableRefusal s t node p0 p1 p2 words) words)
-    unfolding tableAnswer nodesOf nodePart clausesStart Answer After
+    unfolding tableAnswer nodesOf Answer After
     table-whole nodes new answer l e a b = (
       a
           ∙ ap (λ (w : List ℕ). Answer w n h) e
-          ∙ ap (λ (k : ℕ). Answer (part nodesStart (nodesStart + 6 * h .nodes) s) k h) (sym many)
-          ∙ ap (λ (g : Header). Answer (part nodesStart (nodesStart + 6 * g .nodes) s) (cycleCount t) g) (sym same)
+          ∙ ap (λ (k : ℕ). Answer (nodePart s) k h) (sym many)
+          ∙ ap (λ (g : Header). Answer (nodePart s) (cycleCount t) g) (sym same)
           ∙ ap (λ (r : ℕ). answerFor r (tableOf (nodesOf s) (cyclesOf t) node (placementOf (headerOf s .names) p0 p1 p2))) (by-node s t node p0 p1 p2 words none-sheet none-trace l),
       b
           ∙ ap (λ (w : List ℕ). After w n h) e
-          ∙ ap (λ (k : ℕ). After (part nodesStart (nodesStart + 6 * h .nodes) s) k h) (sym many)
-          ∙ ap (λ (g : Header). After (part nodesStart (nodesStart + 6 * g .nodes) s) (cycleCount t) g) (sym same)
+          ∙ ap (λ (k : ℕ). After (nodePart s) k h) (sym many)
+          ∙ ap (λ (g : Header). After (nodePart s) (cycleCount t) g) (sym same)
           ∙ ap (λ (r : ℕ). wordsAfter r words) (by-node s t node p0 p1 p2 words none-sheet none-trace l),
     )
-
--- the node part lies inside the sheet
-pub nodes-fit : (s : List ℕ) (h : Header) → sheetAnswer s ≡ Accepted h → nodesStart + 6 * h .nodes ≤ length s
-nodes-fit s h accepted =
-    let o = open-answer s h accepted in
-    let count : headerOf s .nodes ≡ h .nodes = ap (λ (g : Header). g .nodes) (answer-accepted s h accepted .1) in
-    let long = o .long in
-    omega arith

@@ -1,7 +1,6 @@
 // The check and its verdict; the table.
 pub mod check;
 pub mod gather;
-pub mod parts;
 pub mod place;
 pub mod search;
 pub mod table;

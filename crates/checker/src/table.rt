@@ -9,11 +9,11 @@ ghost use Rattle.stored.specs.Trace.{cyclesOf};
 ghost use Rattle.tables.specs.Table.{standing, rowAt};
 ghost use Rattle.tables.specs.Ready.{Given};
 ghost use Rattle.checker.specs.Table.{namePlaced, namesPlaced, heeded, placementOf, tableOf, nodeRefusal, answerFor, refusedWith, wordsAfter, tableAnswer, tableRefusal};
-use crate::parts::node_part;
 use stored::SheetAnswer;
 use stored::TraceAnswer;
 use stored::masks::reach_table;
 use stored::nodes::is_formula_node;
+use stored::sheet::node_part;
 use stored::sheet::read_sheet;
 use stored::sheet::sheet_number;
 use stored::trace::read_trace;
@@ -156,6 +156,6 @@ pub fn table(
     if words.len() < 4096 {
         return refused(15);
     }
-    let nodes = node_part(sheet, count);
+    let nodes = node_part(sheet, h);
     node_table(nodes, count, trace, n, m, node, p0, p1, p2, words)
 }

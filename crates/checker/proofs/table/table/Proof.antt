@@ -4,7 +4,8 @@ use native.Mathlib.Omega.{arith}
 use Prim.Native.Nat.{ℕ, zero, suc, _+_, _-_, _*_, _^_, _≤_, _<_}
 use borrow.Author.Needs.{needs}
 use denote.Ref.{now}
-use Rattle.checker.proofs.Whole.{sheet-refuses, trace-refuses, words-refuse, given-read, table-whole, nodes-fit}
+use Rattle.checker.proofs.Whole.{sheet-refuses, trace-refuses, words-refuse, table-whole}
+use Rattle.checker.proofs.Checked.{check-given}
 use Rattle.checker.proofs.table.table.Statement.{statement}
 use Rattle.checker.proofs.table.table.Tie as tie
 
@@ -60,12 +61,12 @@ returns-3 c =
     (c .refused3 .ensures ∙ z .0, z .1)
 
 node-part-requires : tie.Need-node-part-requires
-node-part-requires c κs = nodes-fit (now (c .before .before .before .before .before .before .before .before .before .before .before .before .args .sheet)) _ (sym (c .before .before .before .before .before .before .before .before .read-sheet .ensures) ∙ c .before .before .before .before .before .before .sheet-answer .given .1)
+node-part-requires c κs = sym (c .before .before .before .before .before .before .before .before .read-sheet .ensures) ∙ c .before .before .before .before .before .before .sheet-answer .given .1
 
 node-table-requires : tie.Need-node-table-requires
 node-table-requires c κs =
     let a = c .before .before .before .before .before .before .before .before .before .before .before .before .before .before .args in
-    given-read (now (a .sheet)) (now (a .trace)) (a .node) (a .p0) (a .p1) (a .p2) (now (a .words)) _ _ (sym (c .before .before .before .before .before .before .before .before .before .before .read-sheet .ensures) ∙ c .before .before .before .before .before .before .before .before .sheet-answer .given .1) (sym (c .before .before .before .before .before .before .read-trace .ensures) ∙ c .before .before .before .before .trace-answer .given .1) _ (c .before .before .if1 .left) (c .before .node-part .ensures)
+    check-given (now (a .sheet)) (now (a .trace)) (now (a .words)) _ (sym (c .before .before .before .before .before .before .before .before .before .before .read-sheet .ensures) ∙ c .before .before .before .before .before .before .before .before .sheet-answer .given .1) _ (sym (c .before .before .before .before .before .before .read-trace .ensures) ∙ c .before .before .before .before .trace-answer .given .1) _ (c .before .before .if1 .left) (c .before .node-part .ensures)
 
 same-length : tie.Need-same-length
 same-length c = c .before .before .node-table .kept .1 .1 .1 .1 .1 .1 .1 .1 .1 .0
