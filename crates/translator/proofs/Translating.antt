@@ -18,10 +18,10 @@ use Rattle.semantics.proofs.Tests.{and-intro}
 use Rattle.stored.specs.declared.Node.{Node}
 use Rattle.stored.specs.declared.Header.{Header}
 use Rattle.stored.specs.declared.SheetAnswer.{SheetAnswer}
-use Rattle.stored.specs.Bytes.{word, part, everyBelow, framedFrom}
+use Rattle.stored.specs.Bytes.{word, everyBelow, framedFrom}
 use Rattle.stored.specs.Node.{emittedSorts, sortOf, sortBelow, nodeAt, nodeRight, fieldsRight, operandsRight, isFormulaNode}
 use Rattle.stored.specs.Tree.{pick, formulaAt}
-use Rattle.stored.specs.Sheet.{headerOf, clausesStart, sheetEnd, nodePart, clausePart, nodesOf, storedOf, framed, versioned, sized, sheetRefusal, sheetAnswer, sheetNumber, clauseIn, clausesOf, requirementOf}
+use Rattle.stored.specs.Sheet.{headerOf, sheetEnd, nodePart, clausePart, nodesOf, storedOf, framed, versioned, sized, sheetRefusal, sheetAnswer, sheetNumber, clauseIn, clausesOf, requirementOf}
 use Rattle.stored.specs.Emitted.{ofKindTwo, emittedCounted, rootOf, emittedFormula, emittedNodes, emittedOperands, isEmitted, emittedTrue}
 use Rattle.stored.specs.Written.{nodeIn, putHeader, emittedHeader}
 use Rattle.stored.proofs.Rules.{every-all}
@@ -308,13 +308,10 @@ pub record Run (s x : List ℕ) (h : Header) (y : List ℕ) (r : ℕ) : Type 0 w
   pub headed : y₀ ≡ putHeader x (h .signals) (h .names) 0
   pub shared : Step y₀ y₁ (3 + 2 * h .names)
   pub required :
-      Emits y₁ y r
-      (requirementCost (part 9 (9 + 6 * h .nodes) s) (h .nodes) (h .clauses) (headerOf y₁ .names))
-      (translation (clausesAt (part 9 (9 + 6 * h .nodes) s) (part (9 + 6 * h .nodes) (9 + 6 * h .nodes + 11 * h .clauses) s) (h .clauses)))
+      Emits y₁ y r (requirementCost (nodePart s) (h .nodes) (h .clauses) (headerOf y₁ .names)) (translation (clausesAt (nodePart s) (clausePart s) (h .clauses)))
   pub last : count y ≡ r + 1
 
 pub run-translated : (s x : List ℕ) (answer : SheetAnswer) (h : Header) → answer ≡ sheetAnswer s → answer ≡ SheetAnswer.Accepted h → (y : List ℕ) (r : ℕ) → 8192 ≤ length x → Run s x h y r → Translated s x y (Written (15 + 6 * r))
-unfolding nodePart clausePart clausesStart sheetEnd
 run-translated s x answer h told taken y r big run =
     let o = opened-sheet s x answer h told taken in
     let u : Run s x (headerOf s) y r = subst (λ (g : Header). Run s x g y r) (sym (header-is s x answer h told taken)) run in
@@ -324,16 +321,25 @@ run-translated s x answer h told taken y r big run =
     (length-written s x (u .y₀) (u .y₁) y r o big (u .headed) (u .shared) (u .required) (u .last))
     (later-kept s x (u .y₀) (u .y₁) y r o big (u .headed) (u .shared) (u .required) (u .last))
 
+-- what was put for the parts that were handed over was put for the sheet's
+pub required-parts : (s y y′ : List ℕ) (r : ℕ) (h : Header) (nodes clauses : List ℕ) → nodes ≡ nodePart s → clauses ≡ clausePart s
+    → Emits y y′ r (requirementCost nodes (h .nodes) (h .clauses) (headerOf y .names)) (translation (clausesAt nodes clauses (h .clauses)))
+    → Emits y y′ r (requirementCost (nodePart s) (h .nodes) (h .clauses) (headerOf y .names)) (translation (clausesAt (nodePart s) (clausePart s) (h .clauses)))
+required-parts s y y′ r h nodes clauses at after e =
+    subst (λ (x : List ℕ). Emits y y′ r (requirementCost (nodePart s) (h .nodes) (h .clauses) (headerOf y .names)) (translation (clausesAt (nodePart s) x (h .clauses)))) after
+    (subst (λ (x : List ℕ). Emits y y′ r (requirementCost x (h .nodes) (h .clauses) (headerOf y .names)) (translation (clausesAt x clauses (h .clauses)))) at e)
+
 -- the parts of an accepted sheet, by the header that was read
 module _ (s : List ℕ) (h : Header) (e : headerOf s ≡ h) (o : Opened s) (y : List ℕ) (signals : headerOf y .signals ≡ h .signals) (names : headerOf y .names ≡ h .names) where
-  pub nodes-read : NodesIn y (part 9 (9 + 6 * h .nodes) s) (h .nodes)
-  unfolding nodePart clausesStart
-  nodes-read =
-      subst (λ (g : Header). NodesIn y (part 9 (9 + 6 * g .nodes) s) (g .nodes)) e
-      (nodes-in-sheet s o y (signals ∙ ap (λ (g : Header). g .signals) (sym e)) (names ∙ ap (λ (g : Header). g .names) (sym e)))
+  pub nodes-read : (nodes : List ℕ) → nodes ≡ nodePart s → NodesIn y nodes (h .nodes)
+  nodes-read nodes at =
+      subst (λ (x : List ℕ). NodesIn y x (h .nodes)) (sym at)
+      (subst (λ (g : Header). NodesIn y (nodePart s) (g .nodes)) e
+      (nodes-in-sheet s o y (signals ∙ ap (λ (g : Header). g .signals) (sym e)) (names ∙ ap (λ (g : Header). g .names) (sym e))))
 
-  pub clauses-read : ClausesIn y (part 9 (9 + 6 * h .nodes) s) (h .nodes) (part (9 + 6 * h .nodes) (9 + 6 * h .nodes + 11 * h .clauses) s) (h .clauses)
-  unfolding nodePart clausePart clausesStart sheetEnd
-  clauses-read =
-      subst (λ (g : Header). ClausesIn y (part 9 (9 + 6 * g .nodes) s) (g .nodes) (part (9 + 6 * g .nodes) (9 + 6 * g .nodes + 11 * g .clauses) s) (g .clauses)) e
-      (clauses-in-sheet s o y (signals ∙ ap (λ (g : Header). g .signals) (sym e)) (names ∙ ap (λ (g : Header). g .names) (sym e)))
+  pub clauses-read : (nodes clauses : List ℕ) → nodes ≡ nodePart s → clauses ≡ clausePart s → ClausesIn y nodes (h .nodes) clauses (h .clauses)
+  clauses-read nodes clauses at after =
+      subst (λ (x : List ℕ). ClausesIn y x (h .nodes) clauses (h .clauses)) (sym at)
+      (subst (λ (x : List ℕ). ClausesIn y (nodePart s) (h .nodes) x (h .clauses)) (sym after)
+      (subst (λ (g : Header). ClausesIn y (nodePart s) (g .nodes) (clausePart s) (g .clauses)) e
+      (clauses-in-sheet s o y (signals ∙ ap (λ (g : Header). g .signals) (sym e)) (names ∙ ap (λ (g : Header). g .names) (sym e)))))

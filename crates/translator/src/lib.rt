@@ -30,13 +30,11 @@ pub fn translate(sheet: &[u8], out: &mut [u8]) -> TranslateAnswer
     if out.len() < 8192 {
         return TranslateAnswer::Refused(14);
     }
+    let nodes = sheet::node_part(sheet, h);
+    let clauses = sheet::clause_part(sheet, h);
     let m = h.names;
-    let n = h.nodes;
-    let c = h.clauses;
-    let middle = 9 + 6 * n;
-    let end = middle + 11 * c;
     writer::put_header(out, h.signals, m, 0);
     shared::put_shared(out, m);
-    let root = requirement::put_requirement(out, &sheet[9..middle], n, &sheet[middle..end], c);
+    let root = requirement::put_requirement(out, nodes, h.nodes, clauses, h.clauses);
     TranslateAnswer::Written(15 + 6 * root)
 }

@@ -1,11 +1,10 @@
 use Rattle.translator.proofs.Steps.{steps}
-use mathlib.Core.Path.{_≡_, sym, _∙_, subst, ap}
+use mathlib.Core.Path.{_≡_, sym, _∙_, subst}
 use denote.Ref.{now}
-use lib.ListN.{length}
-use Prim.Native.Nat.{ℕ, _+_, _*_}
-use Rattle.stored.specs.Sheet.{headerOf}
+use Rattle.stored.specs.Sheet.{headerOf, sheetAnswer}
+use Rattle.stored.specs.declared.SheetAnswer.{SheetAnswer}
 use Rattle.stored.proofs.Accepted.{Opened, Counts}
-use Rattle.translator.proofs.Translating.{opened-sheet, header-is, sheet-refused, output-refused, run-translated, empty-good, empty-count, empty-signals, empty-names, empty-length, nodes-read, clauses-read}
+use Rattle.translator.proofs.Translating.{opened-sheet, header-is, sheet-refused, output-refused, run-translated, empty-good, empty-count, empty-signals, empty-names, empty-length, nodes-read, clauses-read, required-parts}
 use borrow.Author.Needs.{needs}
 use native.Mathlib.Omega.{arith}
 use Rattle.translator.proofs.translate.Statement.{statement}
@@ -21,8 +20,8 @@ head c = header-is _ (now (c .before .before .before .before .before .before .be
 known : (c : tie.Else1) → Counts (c .before .before .answer .given .0 .0)
 known c = subst Counts (head c) (opened c .in-range)
 
-long : (c : tie.Else1) → length (now (c .before .before .before .before .before .before .before .args .sheet)) ≡ 9 + 6 * c .before .before .answer .given .0 .0 .nodes + 11 * c .before .before .answer .given .0 .0 .clauses
-long c = rw (← head c) (opened c .long)
+accepted : (c : tie.Else1) → sheetAnswer (now (c .before .before .before .before .before .before .before .args .sheet)) ≡ SheetAnswer.Accepted (c .before .before .answer .given .0 .0)
+accepted c = sym (c .before .before .before .before .read-sheet .ensures) ∙ c .before .before .answer .given .1
 
 read-sheet-requires : tie.Need-read-sheet-requires
 read-sheet-requires c κs = search needs
@@ -42,74 +41,52 @@ returns c = rw (c .sheet-number .ensures) (sheet-refused _ _ _ _ (c .before .bef
 returns-2 : tie.Need-returns-2
 returns-2 c = output-refused _ _ _ _ (c .before .before .before .before .read-sheet .ensures) (c .before .before .answer .given .1) (c .if1 .taken)
 
-mul-middle : tie.Need-mul-middle
-mul-middle c = omega (arith, known c)
+node-part-requires : tie.Need-node-part-requires
+node-part-requires c κs = accepted c
 
-add-middle : tie.Need-add-middle
-add-middle c = omega (arith, known c)
-
-mul-end : tie.Need-mul-end
-mul-end c = omega (arith, known c)
-
-add-end : tie.Need-add-end
-add-end c = omega (arith, known c)
+clause-part-requires : tie.Need-clause-part-requires
+clause-part-requires c κs = accepted (c .before)
 
 put-header-requires : tie.Need-put-header-requires
-put-header-requires c κs = let k = known (c .before) in (omega (arith, c .before .if1 .left), omega (arith, k .few-signals), omega (arith, k .few-names), omega arith)
+put-header-requires c κs = let k = known (c .before .before .before) in (omega (arith, c .before .before .before .if1 .left), omega (arith, k .few-signals), omega (arith, k .few-names), omega arith)
 
 put-shared-requires : tie.Need-put-shared-requires
 put-shared-requires c κs =
-    let k = known (c .before .before .before .before .before) in
+    let k = known (c .before .before .before .before .before .before .before) in
     let e = c .before .before .before .put-header .ensures in
-    let big = c .before .before .before .before .before .if1 .left in
+    let big = c .before .before .before .before .before .before .before .if1 .left in
     (empty-good _ _ _ _ big e (k .some-signals) (k .few-signals) (k .few-names), empty-count _ _ _ _ big e, sym (empty-names _ _ _ _ big e))
-
-sub-put-requirement : tie.Need-sub-put-requirement
-sub-put-requirement c = omega arith
-
-part-put-requirement-start : tie.Need-part-put-requirement-start
-part-put-requirement-start c = omega arith
-
-part-put-requirement-end : tie.Need-part-put-requirement-end
-part-put-requirement-end c = omega (arith, long (c .before .before .before .before .before .before .before .before .before))
-
-sub-put-requirement-2 : tie.Need-sub-put-requirement-2
-sub-put-requirement-2 c = omega arith
-
-part-put-requirement-start-2 : tie.Need-part-put-requirement-start-2
-part-put-requirement-start-2 c = omega arith
-
-part-put-requirement-end-2 : tie.Need-part-put-requirement-end-2
-part-put-requirement-end-2 c = omega (arith, long (c .before .before .before .before .before .before .before .before .before .before))
 
 put-requirement-requires : tie.Need-put-requirement-requires
 put-requirement-requires c κs =
     let k = known (c .before .before .before .before .before .before .before .before .before .before .before) in
-    let e = c .before .before .before .before .before .before .before .before .before .put-header .ensures in
+    let e = c .before .before .before .before .before .before .before .put-header .ensures in
     let big = c .before .before .before .before .before .before .before .before .before .before .before .if1 .left in
-    let s = c .before .before .before .before .before .put-shared .ensures .1 in
+    let s = c .before .before .before .put-shared .ensures .1 in
     let signals = s .signals ∙ empty-signals _ _ _ _ big e in
     let names = s .names ∙ empty-names _ _ _ _ big e in
-    (c .before .before .before .before .before .put-shared .ensures .0, omega (arith, s .few, empty-count _ _ _ _ big e, k .few-names), nodes-read _ _ (head (c .before .before .before .before .before .before .before .before .before .before .before)) (opened (c .before .before .before .before .before .before .before .before .before .before .before)) _ signals names, clauses-read _ _ (head (c .before .before .before .before .before .before .before .before .before .before .before)) (opened (c .before .before .before .before .before .before .before .before .before .before .before)) _ signals names)
+    let at = c .before .before .before .before .before .before .before .before .before .before .node-part .ensures in
+    let after = c .before .before .before .before .before .before .before .before .before .clause-part .ensures in
+    (c .before .before .before .put-shared .ensures .0, omega (arith, s .few, empty-count _ _ _ _ big e, k .few-names), nodes-read _ _ (head (c .before .before .before .before .before .before .before .before .before .before .before)) (opened (c .before .before .before .before .before .before .before .before .before .before .before)) _ signals names _ at, clauses-read _ _ (head (c .before .before .before .before .before .before .before .before .before .before .before)) (opened (c .before .before .before .before .before .before .before .before .before .before .before)) _ signals names _ _ at after)
 
-mul-t12 : tie.Need-mul-t12
-mul-t12 c = omega (arith, c .before .before .put-requirement .ensures .0 .step .good .few-nodes, c .before .before .put-requirement .ensures .1)
+mul-t10 : tie.Need-mul-t10
+mul-t10 c = omega (arith, c .before .before .put-requirement .ensures .0 .step .good .few-nodes, c .before .before .put-requirement .ensures .1)
 
-add-t25 : tie.Need-add-t25
-add-t25 c = omega (arith, c .before .before .put-requirement .ensures .0 .step .good .few-nodes, c .before .before .put-requirement .ensures .1)
+add-t19 : tie.Need-add-t19
+add-t19 c = omega (arith, c .before .before .put-requirement .ensures .0 .step .good .few-nodes, c .before .before .put-requirement .ensures .1)
 
 same-length : tie.Need-same-length
-same-length c = steps (c .before .before .before .before .before .before .before .before .put-shared .ensures .1) (c .before .before .put-requirement .ensures .0 .step) .size ∙ c .before .before .before .before .before .before .before .before .before .before .before .before .put-header .kept .0
+same-length c = steps (c .before .before .before .before .before .before .put-shared .ensures .1) (c .before .before .put-requirement .ensures .0 .step) .size ∙ c .before .before .before .before .before .before .before .before .before .before .put-header .kept .0
 
 returns-3 : tie.Need-returns-3
 returns-3 c =
     run-translated _ _ _ _ (c .before .before .before .before .before .before .before .before .before .before .before .before .before .before .before .before .before .before .read-sheet .ensures) (c .before .before .before .before .before .before .before .before .before .before .before .before .before .before .before .before .answer .given .1) _ _ (c .before .before .before .before .before .before .before .before .before .before .before .before .before .before .if1 .left)
     (record {
-      y₀ = c .before .before .before .before .before .before .before .before .before .before .before .before .put-header .last .0;
-      y₁ = c .before .before .before .before .before .before .before .before .put-shared .last .0;
-      headed = c .before .before .before .before .before .before .before .before .before .before .before .before .put-header .ensures;
-      shared = c .before .before .before .before .before .before .before .before .put-shared .ensures .1;
-      required = c .before .before .put-requirement .ensures .0;
+      y₀ = c .before .before .before .before .before .before .before .before .before .before .put-header .last .0;
+      y₁ = c .before .before .before .before .before .before .put-shared .last .0;
+      headed = c .before .before .before .before .before .before .before .before .before .before .put-header .ensures;
+      shared = c .before .before .before .before .before .before .put-shared .ensures .1;
+      required = required-parts (now (c .before .before .before .before .before .before .before .before .before .before .before .before .before .before .before .before .before .before .before .before .before .args .sheet)) (c .before .before .before .before .before .before .put-shared .last .0) (c .before .before .put-requirement .last .0) (c .before .before .put-requirement .result) (c .before .before .before .before .before .before .before .before .before .before .before .before .before .before .before .before .answer .given .0 .0) _ _ (c .before .before .before .before .before .before .before .before .before .before .before .before .before .node-part .ensures) (c .before .before .before .before .before .before .before .before .before .before .before .before .clause-part .ensures) (c .before .before .put-requirement .ensures .0);
       last = c .before .before .put-requirement .ensures .1;
     })
 
@@ -123,20 +100,12 @@ translate-spec =
     sheet-number-requires
     returns
     returns-2
-    mul-middle
-    add-middle
-    mul-end
-    add-end
+    node-part-requires
+    clause-part-requires
     put-header-requires
     put-shared-requires
-    sub-put-requirement
-    part-put-requirement-start
-    part-put-requirement-end
-    sub-put-requirement-2
-    part-put-requirement-start-2
-    part-put-requirement-end-2
     put-requirement-requires
-    mul-t12
-    add-t25
+    mul-t10
+    add-t19
     same-length
     returns-3)
