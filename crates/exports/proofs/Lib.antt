@@ -1,0 +1,2 @@
+-- Bounds of packed numbers.
+pub mod Packing

@@ -1,0 +1,123 @@
+-- Packed numbers fit in 64 bits, and are unpacked again.
+use Prim.Native.Nat.{ℕ, zero, suc, _+_, _*_, _/_, _%_, _≤_, _<_}
+use mathlib.Core.Bool.{Bool, true, false, cond, _&&_}
+use mathlib.Core.List.{List}
+use mathlib.Core.Path.{_≡_, refl, sym, _∙_, ap, subst}
+use native.Mathlib.Nat.{mul-le-mul}
+use native.Mathlib.Omega.{arith}
+use borrow.Author.Tests.{eqb-true, eqb-false}
+use lib.Dec.{eqb, ltb, leb}
+use lib.ListN.{length, take}
+use Rattle.semantics.specs.Cycles.{countBelow}
+use Rattle.semantics.proofs.Tests.{and-left, and-right}
+use Rattle.stored.specs.Sheet.{headerOf, nodesOf, sized, sheetEnd, sheetRefusal, sheetRules}
+use Rattle.stored.specs.Tree.{pick}
+use Rattle.stored.specs.Emitted.{isEmitted, emittedCounted}
+use Rattle.stored.proofs.Accepted.{opened}
+use Rattle.stored.proofs.Emitted.{emitted-opened}
+use Rattle.checker.specs.declared.check.Place.{Place}
+use Rattle.translator.specs.declared.TranslateAnswer.{TranslateAnswer}
+use Rattle.translator.specs.declared.TranslateAnswer.the-variants as formula
+use Rattle.translator.specs.Answer.{translateRefusal, translateNumber, writtenLength}
+use Rattle.translator.specs.Bound.{drawingAt, drawings, nodeBound}
+use Rattle.translator.specs.Translated.{FormulaOf, Translated}
+use Rattle.translator.proofs.Translating.{number-told}
+use Rattle.printed.specs.Line.{SmallPlace}
+use Rattle.printed.proofs.Answers.{lowest-small}
+use Rattle.exports.specs.Packed.{packedPlace, packedFormula, unpackedFormula, SmallFormula}
+
+pub place-small : (p : Place) → SmallPlace p → packedPlace p < 100000000
+unfolding packedPlace
+place-small p s =
+    let a = s .0 in
+    let b = s .1 in
+    let c = s .2 in
+    let d = s .3 in
+    omega arith
+
+-- ---- the translator's answer
+pub unpacked : (a : TranslateAnswer) → unpackedFormula (packedFormula a) ≡ a
+unfolding packedFormula unpackedFormula pick
+unpacked (formula.Written size) =
+    let tag : (4 + size * 256) % 256 ≡ 4 = omega arith in
+    let value : (4 + size * 256) / 256 ≡ size = omega arith in
+    rw (tag, value)
+unpacked (formula.Refused number) =
+    let tag : number * 256 % 256 ≡ 0 = omega arith in
+    let value : number * 256 / 256 ≡ number = omega arith in
+    rw (tag, value)
+
+count-most : (n : ℕ) (p : ℕ → Bool) → countBelow n p ≤ n
+unfolding countBelow
+count-most zero p = omega arith
+count-most (suc n) p = let rest = count-most n p in go (p n) rest
+  where
+    go : (b : Bool) → countBelow n p ≤ n → countBelow n p + cond b 1 0 ≤ suc n
+    go true h = omega arith
+    go false h = omega arith
+
+bound-most : (s : List ℕ) → sheetRefusal s ≡ 0 → nodeBound s ≤ 1025
+unfolding nodeBound drawings
+bound-most s e =
+    let o = opened s e .in-range in
+    let nodes = o .few-nodes in
+    let names = o .few-names in
+    let clauses = o .few-clauses in
+    let drawn = count-most (headerOf s .nodes) (drawingAt (nodesOf s)) in
+    let each : 16 + 5 * headerOf s .names ≤ 31 = omega arith in
+    let all : headerOf s .clauses * (16 + 5 * headerOf s .names) ≤ 8 * 31 = mul-le-mul clauses each in
+    omega arith
+
+emitted-length : (y : List ℕ) → isEmitted y ≡ true → length y ≡ 9 + 6 * headerOf y .nodes
+unfolding sized sheetEnd emittedCounted
+emitted-length y e =
+    let o = emitted-opened y e in
+    let h = headerOf y in
+    let long = eqb-true (length y) (9 + 6 * headerOf y .nodes + 11 * headerOf y .clauses) (o .is-sized) in
+    let rest = and-right (leb 1 (h .signals) && leb (h .signals) 16) _ (o .is-counted) in
+    let rest₂ = and-right (leb (h .names) 3) _ rest in
+    let none = eqb-true (h .clauses) 0 (and-right (leb 1 (h .nodes)) _ rest₂) in
+    omega arith
+
+sheet-accepted : (s : List ℕ) (size : ℕ) → translateRefusal s size ≡ 0 → sheetRefusal s ≡ 0
+unfolding translateRefusal
+sheet-accepted s size e = go (eqb (sheetRefusal s) 0) refl e
+  where
+    go : (b : Bool) → eqb (sheetRefusal s) 0 ≡ b → cond b (cond (ltb size 8192) 14 0) (sheetRefusal s) ≡ 0 → sheetRefusal s ≡ 0
+    go true t e = eqb-true (sheetRefusal s) 0 t
+    go false t e = e
+
+sheet-small : (s : List ℕ) → sheetRefusal s < 100
+unfolding sheetRefusal sheetRules
+sheet-small s = lowest-small 1 (sheetRules s) (omega arith) (omega arith)
+
+refusal-small : (s : List ℕ) (size : ℕ) → translateRefusal s size < 100
+unfolding translateRefusal
+refusal-small s size = go (eqb (sheetRefusal s) 0) (ltb size 8192) (sheet-small s)
+  where
+    go : (a b : Bool) → sheetRefusal s < 100 → cond a (cond b 14 0) (sheetRefusal s) < 100
+    go true true h = omega arith
+    go true false h = omega arith
+    go false b h = h
+
+pub formula-small : (s x y : List ℕ) (r : TranslateAnswer) → Translated s x y r → SmallFormula r
+unfolding translateNumber writtenLength
+formula-small s x y (formula.Written size) t =
+    let none : translateRefusal s (length x) ≡ 0 = sym (number-told t) in
+    let f = t .formula none in
+    let long = t .long none in
+    let is = emitted-length (take size y) (f .form) in
+    let bound = f .bound in
+    let most = bound-most s (sheet-accepted s (length x) none) in
+    omega arith
+formula-small s x y (formula.Refused number) t =
+    let told : number ≡ translateRefusal s (length x) = number-told t in
+    let small = refusal-small s (length x) in
+    omega arith
+
+-- a packed answer is the translator's
+pub formula-packed : (s x y : List ℕ) (a : TranslateAnswer) (r : ℕ) → Translated s x y a → r ≡ packedFormula a
+    → (r ≡ packedFormula (unpackedFormula r)) × Translated s x y (unpackedFormula r)
+formula-packed s x y a r t e =
+    let same : unpackedFormula r ≡ a = ap unpackedFormula e ∙ unpacked a in
+    (e ∙ ap packedFormula (sym same), subst (λ (b : TranslateAnswer). Translated s x y b) (sym same) t)
