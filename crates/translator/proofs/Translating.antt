@@ -23,7 +23,7 @@ use Rattle.stored.specs.Node.{emittedSorts, sortOf, sortBelow, nodeAt, nodeRigh
 use Rattle.stored.specs.Tree.{pick, formulaAt}
 use Rattle.stored.specs.Sheet.{headerOf, sheetEnd, nodePart, clausePart, nodesOf, storedOf, framed, versioned, sized, sheetRefusal, sheetAnswer, sheetNumber, clauseIn, clausesOf, requirementOf}
 use Rattle.stored.specs.Emitted.{ofKindTwo, emittedCounted, rootOf, emittedFormula, emittedNodes, emittedOperands, isEmitted, emittedTrue}
-use Rattle.stored.specs.Written.{nodeIn, putHeader, emittedHeader}
+use Rattle.stored.specs.Written.{nodeIn, putHeader, emittedHeader, emittedLength}
 use Rattle.stored.proofs.Rules.{every-all}
 use Rattle.stored.proofs.Tree.{formula-agree}
 use Rattle.stored.proofs.Written.{header-length, header-back, header-byte, header-read, header-rest, nodes-in, taken-byte, taken-header, taken-node}
@@ -311,15 +311,17 @@ pub record Run (s x : List ℕ) (h : Header) (y : List ℕ) (r : ℕ) : Type 0 w
       Emits y₁ y r (requirementCost (nodePart s) (h .nodes) (h .clauses) (headerOf y₁ .names)) (translation (clausesAt (nodePart s) (clausePart s) (h .clauses)))
   pub last : count y ≡ r + 1
 
-pub run-translated : (s x : List ℕ) (answer : SheetAnswer) (h : Header) → answer ≡ sheetAnswer s → answer ≡ SheetAnswer.Accepted h → (y : List ℕ) (r : ℕ) → 8192 ≤ length x → Run s x h y r → Translated s x y (Written (15 + 6 * r))
-run-translated s x answer h told taken y r big run =
+pub run-translated : (s x : List ℕ) (answer : SheetAnswer) (h : Header) → answer ≡ sheetAnswer s → answer ≡ SheetAnswer.Accepted h → (y : List ℕ) (r l : ℕ) → l ≡ emittedLength (r + 1) → 8192 ≤ length x → Run s x h y r → Translated s x y (Written l)
+run-translated s x answer h told taken y r l e big run =
     let o = opened-sheet s x answer h told taken in
     let u : Run s x (headerOf s) y r = subst (λ (g : Header). Run s x g y r) (sym (header-is s x answer h told taken)) run in
-    translated s x answer h told taken y (15 + 6 * r) big
+    let long : l ≡ 15 + 6 * r = omega (arith, e) in
+    rw long
+    (translated s x answer h told taken y (15 + 6 * r) big
     (size-kept s x (u .y₀) (u .y₁) y r o big (u .headed) (u .shared) (u .required) (u .last))
     (formula-written s x (u .y₀) (u .y₁) y r o big (u .headed) (u .shared) (u .required) (u .last))
     (length-written s x (u .y₀) (u .y₁) y r o big (u .headed) (u .shared) (u .required) (u .last))
-    (later-kept s x (u .y₀) (u .y₁) y r o big (u .headed) (u .shared) (u .required) (u .last))
+    (later-kept s x (u .y₀) (u .y₁) y r o big (u .headed) (u .shared) (u .required) (u .last)))
 
 -- what was put for the parts that were handed over was put for the sheet's
 pub required-parts : (s y y′ : List ℕ) (r : ℕ) (h : Header) (nodes clauses : List ℕ) → nodes ≡ nodePart s → clauses ≡ clausePart s

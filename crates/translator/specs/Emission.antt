@@ -15,7 +15,7 @@ use Rattle.stored.specs.Node.{emittedSorts, sortOf, aUse, bUse, fieldsRight, op
 use Rattle.stored.specs.Tree.{propositionAt, formulaAt}
 use Rattle.stored.specs.Clause.{partsUsed}
 use Rattle.stored.specs.Sheet.{headerOf}
-use Rattle.stored.specs.Written.{nodeIn, NodeFits}
+use Rattle.stored.specs.Written.{nodeIn, NodeFits, emittedLength}
 
 -- as many nodes as 8,192 bytes hold
 abbrev pub mostNodes : ℕ
@@ -53,7 +53,7 @@ pub record Step (x y : List ℕ) (k : ℕ) : Type 0 where
   pub signals : headerOf y .signals ≡ headerOf x .signals
   pub names : headerOf y .names ≡ headerOf x .names
   pub same : (i : ℕ) → i < count x → nodeIn y i ≡ nodeIn x i
-  pub back : (t : ℕ) → 9 + 6 * count y ≤ t → drop t y ≡ drop t x
+  pub back : (t : ℕ) → emittedLength (count y) ≤ t → drop t y ≡ drop t x
   pub good : Good y
 
 -- node a is proposition p, or formula f

@@ -36,5 +36,5 @@ pub fn translate(sheet: &[u8], out: &mut [u8]) -> TranslateAnswer
     writer::put_header(out, h.signals, m, 0);
     shared::put_shared(out, m);
     let root = requirement::put_requirement(out, nodes, h.nodes, clauses, h.clauses);
-    TranslateAnswer::Written(15 + 6 * root)
+    TranslateAnswer::Written(writer::emitted_length(root + 1))
 }

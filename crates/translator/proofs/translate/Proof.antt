@@ -69,25 +69,25 @@ put-requirement-requires c κs =
     let after = c .before .before .before .before .before .before .before .before .before .clause-part .ensures in
     (c .before .before .before .put-shared .ensures .0, omega (arith, s .few, empty-count _ _ _ _ big e, k .few-names), nodes-read _ _ (head (c .before .before .before .before .before .before .before .before .before .before .before)) (opened (c .before .before .before .before .before .before .before .before .before .before .before)) _ signals names _ at, clauses-read _ _ (head (c .before .before .before .before .before .before .before .before .before .before .before)) (opened (c .before .before .before .before .before .before .before .before .before .before .before)) _ signals names _ _ at after)
 
-mul-t10 : tie.Need-mul-t10
-mul-t10 c = omega (arith, c .before .before .put-requirement .ensures .0 .step .good .few-nodes, c .before .before .put-requirement .ensures .1)
+add-emitted-length : tie.Need-add-emitted-length
+add-emitted-length c = omega (arith, c .before .before .put-requirement .ensures .0 .step .good .few-nodes, c .before .before .put-requirement .ensures .1)
 
-add-t19 : tie.Need-add-t19
-add-t19 c = omega (arith, c .before .before .put-requirement .ensures .0 .step .good .few-nodes, c .before .before .put-requirement .ensures .1)
+emitted-length-requires : tie.Need-emitted-length-requires
+emitted-length-requires c κs = omega (arith, c .before .before .put-requirement .ensures .0 .step .good .few-nodes, c .before .before .put-requirement .ensures .1)
 
 same-length : tie.Need-same-length
-same-length c = steps (c .before .before .before .before .before .before .put-shared .ensures .1) (c .before .before .put-requirement .ensures .0 .step) .size ∙ c .before .before .before .before .before .before .before .before .before .before .put-header .kept .0
+same-length c = steps (c .before .before .before .before .before .before .before .put-shared .ensures .1) (c .before .before .before .put-requirement .ensures .0 .step) .size ∙ c .before .before .before .before .before .before .before .before .before .before .before .put-header .kept .0
 
 returns-3 : tie.Need-returns-3
 returns-3 c =
-    run-translated _ _ _ _ (c .before .before .before .before .before .before .before .before .before .before .before .before .before .before .before .before .before .before .read-sheet .ensures) (c .before .before .before .before .before .before .before .before .before .before .before .before .before .before .before .before .answer .given .1) _ _ (c .before .before .before .before .before .before .before .before .before .before .before .before .before .before .if1 .left)
+    run-translated _ _ _ _ (c .before .before .before .before .before .before .before .before .before .before .before .before .before .before .before .before .before .before .before .read-sheet .ensures) (c .before .before .before .before .before .before .before .before .before .before .before .before .before .before .before .before .before .answer .given .1) _ _ _ (c .emitted-length .ensures) (c .before .before .before .before .before .before .before .before .before .before .before .before .before .before .before .if1 .left)
     (record {
-      y₀ = c .before .before .before .before .before .before .before .before .before .before .put-header .last .0;
-      y₁ = c .before .before .before .before .before .before .put-shared .last .0;
-      headed = c .before .before .before .before .before .before .before .before .before .before .put-header .ensures;
-      shared = c .before .before .before .before .before .before .put-shared .ensures .1;
-      required = required-parts (now (c .before .before .before .before .before .before .before .before .before .before .before .before .before .before .before .before .before .before .before .before .before .args .sheet)) (c .before .before .before .before .before .before .put-shared .last .0) (c .before .before .put-requirement .last .0) (c .before .before .put-requirement .result) (c .before .before .before .before .before .before .before .before .before .before .before .before .before .before .before .before .answer .given .0 .0) _ _ (c .before .before .before .before .before .before .before .before .before .before .before .before .before .node-part .ensures) (c .before .before .before .before .before .before .before .before .before .before .before .before .clause-part .ensures) (c .before .before .put-requirement .ensures .0);
-      last = c .before .before .put-requirement .ensures .1;
+      y₀ = c .before .before .before .before .before .before .before .before .before .before .before .put-header .last .0;
+      y₁ = c .before .before .before .before .before .before .before .put-shared .last .0;
+      headed = c .before .before .before .before .before .before .before .before .before .before .before .put-header .ensures;
+      shared = c .before .before .before .before .before .before .before .put-shared .ensures .1;
+      required = required-parts (now (c .before .before .before .before .before .before .before .before .before .before .before .before .before .before .before .before .before .before .before .before .before .before .args .sheet)) (c .before .before .before .before .before .before .before .put-shared .last .0) (c .before .before .before .put-requirement .last .0) (c .before .before .before .put-requirement .result) (c .before .before .before .before .before .before .before .before .before .before .before .before .before .before .before .before .before .answer .given .0 .0) _ _ (c .before .before .before .before .before .before .before .before .before .before .before .before .before .before .node-part .ensures) (c .before .before .before .before .before .before .before .before .before .before .before .before .before .clause-part .ensures) (c .before .before .before .put-requirement .ensures .0);
+      last = c .before .before .before .put-requirement .ensures .1;
     })
 
 pub translate-spec : {M : Type 1} → statement M
@@ -105,7 +105,7 @@ translate-spec =
     put-header-requires
     put-shared-requires
     put-requirement-requires
-    mul-t10
-    add-t19
+    add-emitted-length
+    emitted-length-requires
     same-length
     returns-3)
