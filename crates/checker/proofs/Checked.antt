@@ -1,14 +1,12 @@
 -- The check's answer from what was read: refused by the lowest number, or the verdict.
-use Prim.Native.Nat.{ℕ, zero, suc, _+_, _*_, _^_, _≤_, _<_}
+use Prim.Native.Nat.{ℕ, zero, suc, _*_, _^_, _≤_, _<_}
 use native.Mathlib.Omega.{arith}
-use mathlib.Core.Bool.{Bool, true, false, cond}
-use mathlib.Core.List.{List, [], _∷_}
+use mathlib.Core.Bool.{true, false}
+use mathlib.Core.List.{List}
 use mathlib.Core.Path.{_≡_, refl, sym, ap, subst, _∙_}
-use lib.Dec.{leb, ltb, eqb}
+use lib.Dec.{eqb}
 use lib.ListN.{length, replicate}
-use lib.Pow.{pow-lt}
-use borrow.Author.Tests.{le-leb, lt-leb, eq-eqb}
-use Rattle.semantics.specs.Proposition.{Trace}
+use borrow.Author.Tests.{le-leb, lt-leb}
 use Rattle.semantics.specs.Clause.{Clause}
 use Rattle.semantics.specs.Verdict.{verdict}
 use Rattle.semantics.specs.Reach.{clauseFits, allFit}

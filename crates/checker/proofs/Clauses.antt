@@ -1,8 +1,8 @@
 -- A clause of an accepted sheet: what the search over its task finds.
-use Prim.Native.Nat.{ℕ, zero, suc, _-_, _≤_, _<_}
+use Prim.Native.Nat.{ℕ, _-_, _≤_}
 use native.Mathlib.Omega.{arith}
 use mathlib.Core.List.{List}
-use mathlib.Core.Path.{_≡_, refl, sym, ap, subst, _∙_}
+use mathlib.Core.Path.{_≡_, sym, subst, _∙_}
 use lib.ListN.{length}
 use Rattle.semantics.specs.Proposition.{bit}
 use Rattle.semantics.specs.Placement.{noNames, somePlacement}
@@ -18,7 +18,7 @@ use Rattle.checker.specs.Places.{numbered, IsLeast}
 use Rattle.checker.specs.Task.{taskOf, missedTask}
 use Rattle.checker.specs.Laid.{Laid, missedOn, over0, over1, over2}
 use Rattle.checker.specs.Check.{Sound}
-use Rattle.checker.proofs.Tasks.{Masks, task-least}
+use Rattle.checker.proofs.Tasks.{task-least}
 
 pub clause-least : {nodes trace reach stood words : List ℕ} {count n : ℕ} (d : StoredClause) (task : Task) (r : ℕ) → task ≡ taskOf d
     → Laid nodes count trace n reach stood words → Sound nodes count d

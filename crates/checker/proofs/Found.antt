@@ -1,10 +1,10 @@
 -- The words that the search reads off three rows.
-use Prim.Native.Nat.{ℕ, zero, suc, _-_, _^_, _≤_, _<_}
+use Prim.Native.Nat.{ℕ, suc, _-_, _^_, _≤_, _<_}
 use native.Mathlib.Omega.{arith}
 use native.Mathlib.Nat.{lt-of-le-of-lt, eq-or-lt-of-le}
-use mathlib.Core.Bool.{Bool, true, false, not, _&&_, _||_, true≢false, false≢true}
-use mathlib.Core.Logic.{_⊎_, inl, inr}
-use mathlib.Core.Path.{_≡_, refl, sym, ap, ap₂, subst, _∙_}
+use mathlib.Core.Bool.{Bool, true, false, not, _&&_, true≢false, false≢true}
+use mathlib.Core.Logic.{inl, inr}
+use mathlib.Core.Path.{_≡_, refl, sym, ap, subst, _∙_}
 use lib.Bits.{bitAnd, and-le-l}
 use lib.Count.{trailingZeros}
 use lib.Dec.{leb, ltb, eqb, leb·zero}
@@ -13,8 +13,8 @@ use borrow.Author.Tests.{leb-true, leb-false, le-leb, ltb-true, lt-ltb, eqb-true
 use Rattle.semantics.specs.Cycles.{someBelow, someFrom, someIn}
 use Rattle.semantics.specs.Proposition.{bit}
 use Rattle.semantics.specs.Clause.{Kind, pref, init, anti, implies, follows, triggers}
-use Rattle.semantics.proofs.Tests.{same, test, is-false, false-not, and-left, and-right, and-intro, and-comm, and-false, not-intro, not-elim, not-is-false}
-use Rattle.semantics.proofs.Cycles.{below-intro, below-elim, below-cong}
+use Rattle.semantics.proofs.Tests.{same, test, is-false, false-not, and-left, and-right, and-intro, and-comm, and-false, and-false-left, and-true-right, not-intro, not-elim}
+use Rattle.semantics.proofs.Cycles.{below-intro, below-elim, below-cong, some-elim}
 use Rattle.rows.specs.Row.{word, row, always}
 use Rattle.rows.proofs.Bits.{bit-and, bit-not, bit-above, bit-nothing}
 use Rattle.rows.proofs.Rows.{word-small, word-bit, is-word-in, is-word, masked-row}
@@ -177,3 +177,32 @@ missed-is follows first third answers i j k =
     turned-in (leb i j) (leb j k) (first i j) (third j k && not (someIn j k (answers j)))
 missed-is triggers first third answers i j k =
     turned-in (leb i j) (leb i k) (first i j) (third i k && not (someIn i k (answers i)))
+
+-- ---- where no interval is open without any answer, none is with some
+unmoved : (a c m : Bool) → a && (c && true) ≡ false → a && (c && m) ≡ false
+unmoved true true m h = absurd (true≢false h)
+unmoved true false m h = refl
+unmoved false c m h = refl
+
+deeper : (a c d m : Bool) → a && (c && (d && true)) ≡ false → a && (c && (d && m)) ≡ false
+deeper a true d m h = unmoved a d m h
+deeper a false d m h = h
+
+none-some : (x y : ℕ) → not (someIn x y (λ e. false)) ≡ true
+none-some x y = not-intro (someIn x y (λ e. false)) (λ q. let w = some-elim x (suc y) (λ e. false) q in false≢true (w .ok))
+
+pub missed-fewer : (κ : Kind) (first third answers : ℕ → ℕ → Bool) (i j k : ℕ)
+    → missed κ first third (λ b e. false) i j k ≡ false → missed κ first third answers i j k ≡ false
+unfolding missed
+missed-fewer pref first third answers i j k h = and-false-left (eqb i 0 && eqb k j) (not (answers 0 j)) (sym (and-true-right (eqb i 0 && eqb k j)) ∙ h)
+missed-fewer init first third answers i j k h =
+    unmoved (eqb i 0 && eqb k j) (first 0 j) (not (someIn 0 j (answers 0)))
+    (sym (ap (λ (x : Bool). (eqb i 0 && eqb k j) && (first 0 j && x)) (none-some 0 j)) ∙ h)
+missed-fewer anti first third answers i j k h = h
+missed-fewer implies first third answers i j k h = unmoved (leb i j && eqb k j) (first i j) (not (answers i j)) h
+missed-fewer follows first third answers i j k h =
+    deeper (leb i j && leb j k) (first i j) (third j k) (not (someIn j k (answers j)))
+    (sym (ap (λ (x : Bool). (leb i j && leb j k) && (first i j && (third j k && x))) (none-some j k)) ∙ h)
+missed-fewer triggers first third answers i j k h =
+    deeper (leb i j && leb i k) (first i j) (third i k) (not (someIn i k (answers i)))
+    (sym (ap (λ (x : Bool). (leb i j && leb i k) && (first i j && (third i k && x))) (none-some i k)) ∙ h)

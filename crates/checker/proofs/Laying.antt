@@ -1,15 +1,14 @@
 -- Tables that are right for other cycles, and what the gathered rows mean.
-use Prim.Native.Nat.{ℕ, zero, suc, _+_, _-_, _*_, _≤_, _<_}
+use Prim.Native.Nat.{ℕ, _-_, _≤_, _<_}
 use native.Mathlib.Omega.{arith}
-use mathlib.Core.Bool.{Bool, true, false, not, _&&_, _||_}
+use mathlib.Core.Bool.{Bool, true, false, _&&_, _||_}
 use mathlib.Core.List.{List}
-use mathlib.Core.Path.{_≡_, refl, sym, ap, ap₂, subst, _∙_}
+use mathlib.Core.Path.{_≡_, refl, ap, _∙_}
 use lib.ListN.{length, getD, set, length-set, replicate, getD-replicate}
 use lib.Seq.{getD-set-same, getD-set-other}
-use Rattle.semantics.specs.Cycles.{someFrom}
-use Rattle.semantics.specs.Proposition.{Trace, bit}
+use Rattle.semantics.specs.Proposition.{bit}
 use Rattle.semantics.specs.Formula.{holds}
-use Rattle.semantics.specs.Placement.{Placement, marks, somePlacement}
+use Rattle.semantics.specs.Placement.{marks, somePlacement}
 use Rattle.semantics.specs.Clause.{on, shortest}
 use Rattle.rows.specs.Row.{row, shortestOf}
 use Rattle.rows.proofs.Bits.{bit-nothing}
@@ -20,16 +19,18 @@ use Rattle.stored.specs.Tree.{formulaAt}
 use Rattle.stored.specs.Clause.{partOf}
 use Rattle.stored.specs.Trace.{cyclesOf}
 use Rattle.stored.proofs.Accepted.{cycles-count}
-use Rattle.tables.specs.Table.{standing, rowAt, Table, Tables}
-use Rattle.tables.specs.Ready.{Given, Ready}
+use Rattle.tables.specs.Table.{standing, rowAt, Tables}
+use Rattle.tables.specs.Ready.{Ready}
 use Rattle.checker.specs.declared.task.Task.{Task}
 use Rattle.checker.specs.Search.{inside, onInside, shortInside, answered, missed}
-use Rattle.checker.specs.Places.{numbered, IsLeast}
+use Rattle.checker.specs.Places.{places, numbered, IsLeast}
 use Rattle.checker.specs.Rows.{kindOf, testOf}
 use Rattle.checker.specs.Gather.{cutTo, gathered, Adds}
 use Rattle.checker.specs.Task.{missedTask}
 use Rattle.checker.specs.Laid.{Laid, IsFormula, Formulas, replyOn, missedOn, over0, over1, over2}
+use Rattle.checker.proofs.Found.{missed-fewer}
 use Rattle.checker.proofs.Loops.{missed-least}
+use Rattle.checker.proofs.Places.{least-fewer, numbered-fewer}
 
 ready-at : {nodes trace reach words words′ : List ℕ} {count n s0 s1 s2 p0 p1 p2 : ℕ} → Ready nodes count trace n reach s0 s1 s2 words
     → p0 < n → p1 < n → p2 < n → length words′ ≡ length words → Ready nodes count trace n reach p0 p1 p2 words′
@@ -140,6 +141,31 @@ place-least {nodes} {trace} {reach} {stood} {words} {count} {n} {p0} {p1} {p2} t
     ∙ gathered-short (task .thirds) p0 p1 p2 l (f .third) t b e o h)
     (λ b e o h. fresh n answers (λ b e. over0 (task .rest) n (standing p0 p1 p2) (replyOn nodes trace (task .reply) (task .replies) b e)) few a₂ b e o h)
     (kindOf (task .kind)) r least
+
+-- the same where the search finds nothing without any answer
+pub place-none : {nodes trace reach stood words : List ℕ} {count n p0 p1 p2 : ℕ} (task : Task) (first third : List ℕ) (r : ℕ)
+    → Laid nodes count trace n reach stood words → p0 < n → p1 < n → p2 < n → Formulas nodes count task
+    → Tables (nodeAt nodes) count (cyclesOf trace) (standing p0 p1 p2) words
+    → Adds 64 (replicate 64 0) first (gathered words (task .premise) (task .premises) false p0 p1 p2)
+    → Adds 64 (replicate 64 0) third (gathered words (task .third) (task .thirds) true p0 p1 p2)
+    → IsLeast (numbered n (missed (kindOf (task .kind)) (testOf first) (testOf third) (testOf (replicate 64 0)))) r → r ≡ places
+    → IsLeast (λ y. missedOn nodes trace n task y (standing p0 p1 p2)) places
+unfolding missedOn missedTask testOf
+place-none {nodes} {trace} {reach} {stood} {words} {count} {n} {p0} {p1} {p2} task first third r l h0 h1 h2 f t a₁ a₃ least e =
+    let few = l .ready .given .few-cycles in
+    let d₁ = onInside (partOf (nodeAt nodes) (task .premise) (task .premises)) (cyclesOf trace) (standing p0 p1 p2) in
+    let d₃ = shortInside (partOf (nodeAt nodes) (task .third) (task .thirds)) (cyclesOf trace) (standing p0 p1 p2) in
+    let a = answered (bit (task .rest)) (partOf (nodeAt nodes) (task .reply) (task .replies)) (cyclesOf trace) (n - 1) (standing p0 p1 p2) in
+    least-fewer
+    (numbered-fewer n (missed (kindOf (task .kind)) d₁ d₃ (λ b e. false)) (missed (kindOf (task .kind)) d₁ d₃ a)
+    (λ i j k. missed-fewer (kindOf (task .kind)) d₁ d₃ a i j k))
+    (missed-least n (testOf first) d₁ (testOf third) d₃ (testOf (replicate 64 0)) (λ b e. false)
+    (λ b e o h. fresh 64 first (gathered words (task .premise) (task .premises) false p0 p1 p2) (omega arith) a₁ b e o (omega arith)
+    ∙ gathered-on (task .premises) p0 p1 p2 l (f .premise) t b e o h)
+    (λ b e o h. fresh 64 third (gathered words (task .third) (task .thirds) true p0 p1 p2) (omega arith) a₃ b e o (omega arith)
+    ∙ gathered-short (task .thirds) p0 p1 p2 l (f .third) t b e o h)
+    (λ b e o h. ap (λ (x : ℕ). bit x e) (getD-replicate 64 b 0 0 (omega arith)) ∙ bit-nothing e)
+    (kindOf (task .kind)) places (rw e at least))
 
 -- the first fill, every name on cycle 0
 pub laid-first : {nodes trace reach words words′ : List ℕ} {count n : ℕ} → Ready nodes count trace n reach 0 0 0 words

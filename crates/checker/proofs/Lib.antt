@@ -13,3 +13,4 @@ pub mod Whole
 pub mod Verdicts
 pub mod Clauses
 pub mod Checked
+pub mod Bounds

@@ -2,15 +2,15 @@
 use Prim.Native.Nat.{ℕ, zero, suc, _+_, _-_, _/_, _%_, _≤_, _<_, min}
 use native.Mathlib.Omega.{arith}
 use native.Mathlib.Numerals.{add-one}
-use mathlib.Core.Bool.{Bool, true, false, not, cond, _&&_, _||_, false≢true}
+use mathlib.Core.Bool.{Bool, true, false, not, cond, _&&_, _||_}
 use mathlib.Core.List.{List}
-use mathlib.Core.Logic.{_⊎_, inl, inr}
-use mathlib.Core.Path.{_≡_, refl, sym, ap, ap₂, subst, fun-ext, _∙_}
-use lib.Dec.{leb, ltb, eqb}
+use mathlib.Core.Logic.{inl, inr}
+use mathlib.Core.Path.{_≡_, refl, sym, ap, ap₂, fun-ext, _∙_}
+use lib.Dec.{leb, eqb}
 use borrow.Author.Tests.{leb-true, leb-false}
 use Rattle.semantics.specs.Cycles.{someFrom, someIn}
 use Rattle.semantics.specs.Proposition.{bit}
-use Rattle.semantics.specs.Placement.{Names, noNames, Placement, unplaced, moved, placeName, somePlacement}
+use Rattle.semantics.specs.Placement.{Names, noNames, Placement, unplaced, moved, placeName}
 use Rattle.semantics.specs.Clause.{Kind, pref, init, anti, implies, follows, triggers}
 use Rattle.semantics.proofs.Tests.{same, test}
 use Rattle.semantics.proofs.Cycles.{some-intro, some-elim, some-none, some-cong}

@@ -1,8 +1,7 @@
 -- A clause is broken at i, j, k exactly if some cycles of the trace for the names that it quantifies universally leave the interval unanswered.
-use Prim.Native.Nat.{ℕ, zero, suc, _-_, _≤_, _<_}
+use Prim.Native.Nat.{ℕ, zero, suc, _≤_, _<_}
 use native.Mathlib.Omega.{arith}
 use mathlib.Core.Bool.{Bool, true, false, not, _&&_, _||_, true≢false, false≢true}
-use mathlib.Core.Logic.{_⊎_, inl, inr}
 use mathlib.Core.Path.{_≡_, refl, sym, ap, ap₂, fun-ext, _∙_}
 use lib.Dec.{leb, ltb, eqb}
 use lib.ListN.{length}
@@ -12,11 +11,10 @@ use Rattle.semantics.specs.Proposition.{Trace}
 use Rattle.semantics.specs.Placement.{Names, noNames, everyName, union, listed, Placement, unplaced, placeName, somePlacement}
 use Rattle.semantics.specs.Clause.{Part, Kind, pref, init, anti, implies, follows, triggers, on, given, shortest, unanswered, breaksAt}
 use Rattle.semantics.specs.Reach.{fits, partsFit}
-use Rattle.semantics.proofs.Tests.{same, test, and-intro, and-left, and-right, or-elim, or-left, or-right, not-intro, not-elim, and-true-right}
-use Rattle.semantics.proofs.Names.{not-none, listed-is}
+use Rattle.semantics.proofs.Tests.{same, and-intro, and-left, and-right, and-true-right}
 use Rattle.semantics.proofs.Cycles.{some-cong}
-use Rattle.semantics.proofs.Placement.{Agreeing, Placed, placement-elim, placement-intro, placement-same, placement-cong, far}
-use Rattle.semantics.proofs.Joined.{Inside, inside-intro, inside-elim, together, join}
+use Rattle.semantics.proofs.Placement.{placement-elim, placement-same, placement-cong, far}
+use Rattle.semantics.proofs.Joined.{inside-intro, inside-elim, together, join}
 use Rattle.checker.specs.Search.{insideName, inside, without, quantified, premise, reply, onInside, shortInside, answered, missed, missedBy}
 
 name-to : (u : ℕ) (names : Names) (x y : ℕ) (ν : Placement) → (names u ≡ true → (x ≤ ν u) × (ν u ≤ y)) → insideName u names x y ν ≡ true

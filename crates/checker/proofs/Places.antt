@@ -1,11 +1,11 @@
 -- Laws of least places.
-use Prim.Native.Nat.{ℕ, zero, suc, _+_, _-_, _*_, _/_, _%_, _≤_, _<_}
+use Prim.Native.Nat.{ℕ, suc, _/_, _%_, _≤_, _<_}
 use native.Mathlib.Omega.{arith}
 use native.Mathlib.Nat.{eq-or-lt-of-le}
-use mathlib.Core.Bool.{Bool, true, false, not, cond, _&&_, _||_, true≢false, false≢true}
-use mathlib.Core.Logic.{_⊎_, inl, inr}
+use mathlib.Core.Bool.{Bool, true, false, _&&_, _||_}
+use mathlib.Core.Logic.{inl, inr}
 use mathlib.Core.Path.{_≡_, refl, sym, ap, subst, _∙_}
-use lib.Dec.{ltb, leb}
+use lib.Dec.{ltb}
 use lib.ListN.{length}
 use borrow.Author.Tests.{ltb-true, ltb-false, lt-ltb}
 use Rattle.semantics.specs.Cycles.{someBelow, someFrom}
@@ -13,8 +13,7 @@ use Rattle.semantics.specs.Proposition.{Trace}
 use Rattle.semantics.specs.Clause.{Clause, breaks, fails}
 use Rattle.semantics.specs.Verdict.{Place, firstPlace}
 use Rattle.semantics.proofs.Tests.{same, test, is-false, false-not, and-intro, and-left, and-right, or-left, or-right, or-elim}
-use Rattle.semantics.proofs.Cycles.{some-intro, some-elim, some-none, below-intro, below-elim}
-use Rattle.semantics.proofs.Ranges.{Three, someThree, three-intro, three-elim}
+use Rattle.semantics.proofs.Cycles.{some-intro, some-elim, below-intro}
 use Rattle.semantics.proofs.Verdict.{FirstPlace, Sooner, place-first}
 use Rattle.checker.specs.Places.{places, number, numbered, IsLeast}
 
@@ -45,6 +44,10 @@ least-second {p} {q} {r} {t} a b h =
 
 pub least-none : {p : ℕ → Bool} → ((x : ℕ) → x < places → p x ≡ false) → IsLeast p places
 least-none f = record { most = omega arith; found = λ h. absurd (omega arith); before = f }
+
+-- nothing passes a test that is harder than one which nothing passes
+pub least-fewer : {p q : ℕ → Bool} → ((x : ℕ) → p x ≡ false → q x ≡ false) → IsLeast p places → IsLeast q places
+least-fewer f l = least-none (λ x h. f x (l .before x h))
 
 -- one more turn of a loop over cycles
 pub some-step : (b e : ℕ) (p : ℕ → Bool) → b ≤ e → someFrom b (suc e) p ≡ (someFrom b e p || p e)
@@ -110,6 +113,15 @@ numbered-same n p q x f = go (ltb (x / 4096) n) (ltb (x / 64 % 64) n) (ltb (x % 
     go true true false d e g = refl
     go true false c d e g = refl
     go false b c d e g = refl
+
+pub numbered-fewer : (n : ℕ) (p q : ℕ → ℕ → ℕ → Bool) → ((i j k : ℕ) → p i j k ≡ false → q i j k ≡ false)
+    → (x : ℕ) → numbered n p x ≡ false → numbered n q x ≡ false
+unfolding numbered
+numbered-fewer n p q f x = go (ltb (x / 4096) n && (ltb (x / 64 % 64) n && ltb (x % 64) n))
+  where
+    go : (a : Bool) → a && p (x / 4096) (x / 64 % 64) (x % 64) ≡ false → a && q (x / 4096) (x / 64 % 64) (x % 64) ≡ false
+    go true h = f (x / 4096) (x / 64 % 64) (x % 64) h
+    go false h = refl
 
 -- the first place by i, then j, then k has the least number
 pub first-is-least : (n : ℕ) (p : ℕ → ℕ → ℕ → Bool) (i j k : ℕ) → n ≤ 64 → FirstPlace n p i j k → IsLeast (numbered n p) (number i j k)

@@ -1,14 +1,13 @@
 -- The order of the table operation's refusals.
-use Prim.Native.Nat.{ℕ, zero, suc, _+_, _≤_, _<_}
-use mathlib.Core.Bool.{Bool, true, false, not, cond, _&&_, _||_}
-use mathlib.Core.List.{List, [], _∷_}
-use mathlib.Core.Logic.{_⊎_, inl, inr}
-use mathlib.Core.Path.{_≡_, refl, sym, _∙_, ap, ap₂}
+use Prim.Native.Nat.{ℕ, _≤_, _<_}
+use mathlib.Core.Bool.{Bool, true, false, not, cond, _||_}
+use mathlib.Core.List.{List}
+use mathlib.Core.Path.{_≡_, refl, sym, _∙_, ap}
 use native.Mathlib.Omega.{arith}
 use borrow.Author.Tests.{eqb-true, eq-eqb, ltb-true, le-leb, lt-leb}
-use lib.Dec.{leb, ltb, eqb}
+use lib.Dec.{ltb, eqb}
 use lib.ListN.{length, replicate}
-use Rattle.semantics.proofs.Tests.{test, and-left, and-right}
+use Rattle.semantics.proofs.Tests.{and-left, and-right}
 use Rattle.stored.specs.declared.Node.{Node}
 use Rattle.stored.specs.declared.SheetAnswer.{SheetAnswer}
 use Rattle.stored.specs.declared.SheetAnswer.the-variants.{Accepted}
@@ -19,7 +18,6 @@ use Rattle.stored.specs.Node.{requirementSorts, isFormulaNode}
 use Rattle.stored.specs.Sheet.{headerOf, nodesOf, sheetRefusal, sheetAnswer, sheetNumber}
 use Rattle.stored.specs.Trace.{cycleCount, cyclesOf, traceRefusal, traceAnswer, traceNumber}
 use Rattle.stored.specs.Tree.{pick}
-use Rattle.stored.proofs.Rules.{asked}
 use Rattle.tables.specs.Table.{standing}
 use Rattle.checker.specs.declared.table.TableAnswer.{TableAnswer}
 use Rattle.checker.specs.Table.{namePlaced, namesPlaced, heeded, placementOf, tableOf, nodeRules, nodeRefusal, orElse, wordsRefusal, tableRefusal, refusedWith, answerFor, tableAnswer, wordsAfter}

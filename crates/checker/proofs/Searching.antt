@@ -1,18 +1,17 @@
 -- The turns of the search, over the three arrays of rows.
-use Prim.Native.Nat.{ℕ, zero, suc, _+_, _*_, _/_, _%_, _≤_, _<_}
+use Prim.Native.Nat.{ℕ, _+_, _/_, _%_, _≤_, _<_}
 use native.Mathlib.Omega.{arith}
 use native.Mathlib.Nat.{eq-or-lt-of-le}
-use mathlib.Core.Bool.{Bool, true, false, not, _&&_}
+use mathlib.Core.Bool.{Bool, true, false}
 use mathlib.Core.List.{List}
-use mathlib.Core.Logic.{_⊎_, inl, inr}
-use mathlib.Core.Path.{_≡_, refl, sym, ap, subst, _∙_}
+use mathlib.Core.Logic.{inl, inr}
+use mathlib.Core.Path.{_≡_, sym, ap, subst, _∙_}
 use lib.ListN.{getD}
 use lib.Dec.{ltb}
 use borrow.Author.Tests.{ltb-true, ltb-false}
 use Rattle.semantics.specs.Proposition.{bit}
 use Rattle.semantics.specs.Clause.{Kind}
-use Rattle.semantics.proofs.Tests.{test, is-false, false-not, and-intro, and-false-left, and-false-right}
-use Rattle.semantics.proofs.Verdict.{FirstPlace}
+use Rattle.semantics.proofs.Tests.{test, and-intro, and-false-left, and-false-right}
 use Rattle.rows.specs.Row.{word}
 use Rattle.rows.proofs.Rows.{word-bit}
 use Rattle.checker.specs.Search.{missed}

@@ -1,17 +1,17 @@
 -- The task of a clause and the clause.
-use Prim.Native.Nat.{ℕ, zero, suc, _-_, _^_, _/_, _%_, _≤_, _<_}
+use Prim.Native.Nat.{ℕ, suc, _-_, _^_, _/_, _%_, _≤_, _<_}
 use native.Mathlib.Omega.{arith}
-use mathlib.Core.Bool.{Bool, true, false, not, cond, _&&_, _||_}
-use mathlib.Core.Logic.{_⊎_, inl, inr}
+use mathlib.Core.Bool.{Bool, true, not, _&&_}
+use mathlib.Core.Logic.{inl, inr}
 use mathlib.Core.Path.{_≡_, refl, sym, ap, ap₂, fun-ext, _∙_}
-use lib.Bits.{bitAnd, bitOr, or-lt, and-le-l}
-use lib.Dec.{ltb, eqb}
+use lib.Bits.{bitAnd, bitOr, or-lt}
+use lib.Dec.{ltb}
 use lib.ListN.{length}
 use borrow.Author.Tests.{ltb-true, ltb-false}
 use Rattle.semantics.specs.Proposition.{Trace, bit}
 use Rattle.semantics.specs.Placement.{Names, noNames, union, Placement, unplaced, somePlacement}
-use Rattle.semantics.specs.Clause.{Part, Clause, breaks}
-use Rattle.semantics.specs.Reach.{partsFit, clauseFits}
+use Rattle.semantics.specs.Clause.{breaks}
+use Rattle.semantics.specs.Reach.{clauseFits}
 use Rattle.semantics.proofs.Tests.{test, and-false-left}
 use Rattle.rows.proofs.Bits.{bit-and, bit-or, bit-not, bit-above, bit-nothing}
 use Rattle.stored.specs.declared.Node.{Node}

@@ -1,16 +1,15 @@
 -- The verdict from the first failing assumption and the first failing commitment.
-use Prim.Native.Nat.{ℕ, zero, suc, _+_, _*_, _/_, _%_, _≤_, _<_}
+use Prim.Native.Nat.{ℕ, zero, suc, _+_, _≤_, _<_}
 use native.Mathlib.Omega.{arith}
-use mathlib.Core.Bool.{Bool, true, false, cond, _&&_, true≢false}
-use mathlib.Core.List.{List, [], _∷_}
-use mathlib.Core.Logic.{_⊎_, inl, inr}
+use mathlib.Core.Bool.{Bool, true, false}
+use mathlib.Core.Logic.{inl, inr}
 use native.Mathlib.Nat.{eq-or-lt-of-le}
 use mathlib.Core.Path.{_≡_, refl, sym, ap, _∙_}
-use lib.Dec.{eqb, ltb}
+use lib.Dec.{eqb}
 use lib.ListN.{length}
 use borrow.Author.Tests.{eq-eqb, ne-eqb, lt-ltb}
 use Rattle.semantics.specs.Proposition.{Trace}
-use Rattle.semantics.specs.Clause.{Role, assumption, commitment, Clause, breaks, fails}
+use Rattle.semantics.specs.Clause.{assumption, commitment, Clause, breaks, fails}
 use Rattle.semantics.specs.Verdict as semantics
 use Rattle.semantics.specs.Verdict.{sameRole, hasRole, failsAs, firstPlace, excusedOr, brokenOr, verdict}
 use Rattle.semantics.proofs.Tests.{and-intro, and-false-left, and-false-right}
@@ -18,7 +17,6 @@ use Rattle.stored.specs.declared.Node.{Node}
 use Rattle.stored.specs.declared.StoredClause.{StoredClause}
 use Rattle.stored.specs.Bytes.{inOrder}
 use Rattle.stored.specs.Clause.{clauseOf, roleOf}
-use Rattle.checker.specs.declared.check.Answer.{Answer}
 use Rattle.checker.specs.declared.check.Answer.the-variants.{Excused, Broken, Holds}
 use Rattle.checker.specs.Places.{places, numbered, IsLeast}
 use Rattle.checker.specs.Check.{told, First, placeOf}

@@ -1,17 +1,21 @@
 -- The three arrays of rows for one placement, gathered from the tables.
-use Prim.Native.Nat.{ℕ, _≤_, _<_}
-use mathlib.Core.Bool.{Bool, true, false, cond, _&&_, _||_}
+use Prim.Native.Nat.{ℕ, _≤_, _<_, min, max}
+use mathlib.Core.Bool.{Bool, cond, _&&_, _||_}
 use mathlib.Core.List.{List}
 use mathlib.Core.Path.{_≡_}
 use Rattle.semantics.specs.Proposition.{bit}
-use Rattle.rows.specs.Row.{holding, shortestOf}
+use Rattle.semantics.specs.Placement.{Names}
+use Rattle.rows.specs.Row.{shortestOf}
 use Rattle.tables.specs.Table.{standing, rowAt}
 use Rattle.checker.specs.Search.{inside}
 use Rattle.checker.specs.Rows.{testOf}
 
--- row b, with the intervals kept that hold cycle p, if the name counts
-unfoldable pub narrow : Bool → ℕ → ℕ → ℕ → ℕ
-narrow counts row b p = cond counts (holding row b p) row
+-- the first and the last cycle of the names of a set that stand on p0, p1 and p2; 63 and 0 if there is none
+unfoldable pub firstName : Names → ℕ → ℕ → ℕ → ℕ
+firstName names p0 p1 p2 = min (min (cond (names 0) p0 63) (cond (names 1) p1 63)) (min (cond (names 2) p2 63) 63)
+
+unfoldable pub lastName : Names → ℕ → ℕ → ℕ → ℕ
+lastName names p0 p1 p2 = max (max (cond (names 0) p0 0) (cond (names 1) p1 0)) (cond (names 2) p2 0)
 
 -- row b, or its shortest interval alone
 unfoldable pub cutTo : Bool → ℕ → ℕ

@@ -4,10 +4,8 @@ use mathlib.Core.Bool.{Bool}
 use mathlib.Core.List.{List}
 use mathlib.Core.Path.{_≡_}
 use lib.ListN.{length, getD}
-use Rattle.semantics.specs.Proposition.{Trace, bit}
-use Rattle.semantics.specs.Placement.{Placement, noNames, placeName, somePlacement}
-use Rattle.semantics.specs.Clause.{Part}
-use Rattle.stored.specs.declared.Node.{Node}
+use Rattle.semantics.specs.Proposition.{bit}
+use Rattle.semantics.specs.Placement.{Placement, noNames, placeName}
 use Rattle.stored.specs.Node.{nodeAt, requirementSorts, sortOf, formula}
 use Rattle.stored.specs.Clause.{partOf}
 use Rattle.stored.specs.Trace.{cyclesOf}

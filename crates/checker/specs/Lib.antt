@@ -7,3 +7,4 @@ pub mod Task
 pub mod Laid
 pub mod Table
 pub mod Check
+pub mod Small

@@ -1,7 +1,7 @@
 -- How the check looks for a broken place: the names that a clause quantifies universally are put on cycles of the trace first; three tests on
 -- intervals then say all. The laws join this with the meanings; a reader need not believe it.
 use Prim.Native.Nat.{ℕ}
-use mathlib.Core.Bool.{Bool, true, false, not, _&&_, _||_}
+use mathlib.Core.Bool.{Bool, not, _&&_, _||_}
 use lib.Dec.{leb, eqb}
 use Rattle.semantics.specs.Cycles.{someIn}
 use Rattle.semantics.specs.Proposition.{Trace}

@@ -1,7 +1,7 @@
 -- What the check does for one clause: the part that it starts from, Ξ's part and the part that answers, and which names are put on cycles when.
 use Prim.Native.Nat.{ℕ, _-_, _^_}
 use mathlib.Core.Bool.{Bool, cond}
-use mathlib.Core.List.{List, [], _∷_}
+use mathlib.Core.List.{[], _∷_}
 use lib.Bits.{bitAnd, bitOr}
 use lib.Dec.{ltb, eqb}
 use lib.ListN.{getD}

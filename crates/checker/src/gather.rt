@@ -1,12 +1,13 @@
 // The three arrays of rows for one placement, gathered from the tables.
-use rows::cut::inside;
+use crate::task::choose;
 use rows::cut::shortest;
+use rows::mask::below;
 ghost use mathlib.Core.Path.{_≡_};
 ghost use mathlib.Core.Bool.{cond};
-ghost use Prim.Native.Nat.{_+_, _*_, _<_, _≤_};
+ghost use Prim.Native.Nat.{_+_, _*_, _<_, _≤_, min, max};
 ghost use lib.ListN.{length};
 ghost use Rattle.semantics.specs.Proposition.{bit};
-ghost use Rattle.checker.specs.Gather.{narrow, cutTo, gathered, Adds};
+ghost use Rattle.checker.specs.Gather.{cutTo, firstName, lastName, gathered, Adds};
 
 // Whether the mask has name u.
 pub fn has_name(names: usize, u: usize) -> bool
@@ -16,11 +17,36 @@ pub fn has_name(names: usize, u: usize) -> bool
     (names >> u) & 1 == 1
 }
 
-// Row b, with the intervals kept that hold cycle p, if the name counts.
-fn narrow_row(counts: bool, row: u64, b: usize, p: usize) -> u64
-    ensures { λ r. ⌜ r ≡ narrow counts row b p ⌝ }
+pub fn lesser(a: usize, b: usize) -> usize
+    ensures { λ r. ⌜ r ≡ min a b ⌝ }
 {
-    if counts { inside(row, b, p) } else { row }
+    if a < b { a } else { b }
+}
+
+fn greater(a: usize, b: usize) -> usize
+    ensures { λ r. ⌜ r ≡ max a b ⌝ }
+{
+    if a < b { b } else { a }
+}
+
+// The first cycle of the names in the mask, 63 if there is none.
+fn first_name(names: usize, p0: usize, p1: usize, p2: usize) -> usize
+    ensures { λ r. ⌜ (r ≡ firstName (bit names) p0 p1 p2) × (r < 64) ⌝ }
+{
+    let a = choose(has_name(names, 0), p0, 63);
+    let b = choose(has_name(names, 1), p1, 63);
+    let c = choose(has_name(names, 2), p2, 63);
+    lesser(lesser(a, b), lesser(c, 63))
+}
+
+// The last cycle of the names in the mask, 0 if there is none.
+fn last_name(names: usize, p0: usize, p1: usize, p2: usize) -> usize
+    ensures { λ r. ⌜ r ≡ lastName (bit names) p0 p1 p2 ⌝ }
+{
+    let a = choose(has_name(names, 0), p0, 0);
+    let b = choose(has_name(names, 1), p1, 0);
+    let c = choose(has_name(names, 2), p2, 0);
+    greater(greater(a, b), c)
 }
 
 fn cut_row(short: bool, row: u64) -> u64
@@ -29,16 +55,8 @@ fn cut_row(short: bool, row: u64) -> u64
     if short { shortest(row) } else { row }
 }
 
-// Row b with the intervals kept that hold the cycles of the names in the mask.
-fn narrowed(names: usize, row: u64, b: usize, p0: usize, p1: usize, p2: usize) -> u64
-    ensures { λ r. ⌜ r ≡ narrow (bit names 2) (narrow (bit names 1) (narrow (bit names 0) row b p0) b p1) b p2 ⌝ }
-{
-    let first = narrow_row(has_name(names, 0), row, b, p0);
-    let second = narrow_row(has_name(names, 1), first, b, p1);
-    narrow_row(has_name(names, 2), second, b, p2)
-}
-
-// Adds to each row the intervals of a node, or the shortest of each row alone, that hold the cycles of the names in the mask.
+// Adds to each row the intervals of a node, or the shortest of each row alone, that hold the cycles of the names in the mask: they
+// start at the first of these or before, and end at the last or after.
 pub fn add(
     words: &[u64],
     root: usize,
@@ -53,10 +71,12 @@ pub fn add(
     ensures { λ r. ⌜ length (now (out .exit)) ≡ 64 ⌝ }
     ensures { λ r. ⌜ Adds 64 (now (out .entry)) (now (out .exit)) (gathered (now (words .entry)) root names short p0 p1 p2) ⌝ }
 {
+    let high = first_name(names, p0, p1, p2) + 1;
+    let ends = !below(last_name(names, p0, p1, p2));
     let mut b = 0;
-    while b < 64 {
+    while b < high {
         let row = cut_row(short, words[64 * root + b]);
-        out[b] = out[b] | narrowed(names, row, b, p0, p1, p2);
+        out[b] = out[b] | (row & ends);
         b += 1;
     }
 }

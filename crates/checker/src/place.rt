@@ -2,6 +2,7 @@
 // answer that are left. Only nodes that reach a moved name are filled again.
 use crate::gather::add;
 use crate::gather::has_name;
+use crate::gather::lesser;
 use crate::search::PLACES;
 use crate::search::search;
 use crate::task::Task;
@@ -213,6 +214,11 @@ fn place_one(
         &mut first,
     );
     add(words, task.third, task.thirds, true, p0, p1, p2, &mut third);
+    let kind = task.kind;
+    let unanswered = search(kind, &first, &third, &answers, n);
+    if unanswered == PLACES {
+        return PLACES;
+    }
     answers0(
         task.rest,
         task.reply,
@@ -229,14 +235,7 @@ fn place_one(
         words,
         &mut answers,
     );
-    let kind = task.kind;
     search(kind, &first, &third, &answers, n)
-}
-
-fn lesser(a: usize, b: usize) -> usize
-    ensures { λ r. ⌜ r ≡ min a b ⌝ }
-{
-    if a < b { a } else { b }
 }
 
 // The same for each cycle of name 2, of names 1 and 2, and of all three, where the clause quantifies them.

@@ -1,2 +1,3 @@
--- Bounds of packed numbers.
+-- Laws of packed numbers and of rows put into lent ones.
 pub mod Packing
+pub mod Tabled

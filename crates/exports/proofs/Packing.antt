@@ -5,11 +5,11 @@ use mathlib.Core.List.{List}
 use mathlib.Core.Path.{_≡_, refl, sym, _∙_, ap, subst}
 use native.Mathlib.Nat.{mul-le-mul}
 use native.Mathlib.Omega.{arith}
-use borrow.Author.Tests.{eqb-true, eqb-false}
+use borrow.Author.Tests.{eqb-true}
 use lib.Dec.{eqb, ltb, leb}
 use lib.ListN.{length, take}
 use Rattle.semantics.specs.Cycles.{countBelow}
-use Rattle.semantics.proofs.Tests.{and-left, and-right}
+use Rattle.semantics.proofs.Tests.{and-right}
 use Rattle.stored.specs.Sheet.{headerOf, nodesOf, sized, sheetEnd, sheetRefusal, sheetRules}
 use Rattle.stored.specs.Tree.{pick}
 use Rattle.stored.specs.Emitted.{isEmitted, emittedCounted}
@@ -20,10 +20,10 @@ use Rattle.translator.specs.declared.TranslateAnswer.{TranslateAnswer}
 use Rattle.translator.specs.declared.TranslateAnswer.the-variants as formula
 use Rattle.translator.specs.Answer.{translateRefusal, translateNumber, writtenLength}
 use Rattle.translator.specs.Bound.{drawingAt, drawings, nodeBound}
-use Rattle.translator.specs.Translated.{FormulaOf, Translated}
+use Rattle.translator.specs.Translated.{Translated}
 use Rattle.translator.proofs.Translating.{number-told}
-use Rattle.printed.specs.Line.{SmallPlace}
-use Rattle.printed.proofs.Answers.{lowest-small}
+use Rattle.checker.specs.Small.{SmallPlace}
+use Rattle.checker.proofs.Bounds.{lowest-small}
 use Rattle.exports.specs.Packed.{packedPlace, packedFormula, unpackedFormula, SmallFormula}
 
 pub place-small : (p : Place) → SmallPlace p → packedPlace p < 100000000

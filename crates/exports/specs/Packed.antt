@@ -1,10 +1,17 @@
--- An answer as one number: its tag and 256 times its value.
-use Prim.Native.Nat.{ℕ, _+_, _*_, _/_, _%_, _≤_, _<_}
-use lib.Dec.{eqb}
+-- An answer as one number, its tag and 256 times its value; and a table in lent rows.
+use Prim.Native.Nat.{ℕ, _+_, _*_, _/_, _%_, _≤_}
+use mathlib.Core.Bool.{cond, _&&_}
+use mathlib.Core.List.{List, [], _∷_, _++_}
+use lib.Dec.{eqb, leb}
+use lib.ListN.{length, drop}
+use Rattle.stored.specs.Bytes.{lowest}
+use Rattle.stored.specs.Sheet.{headerOf, nodesOf, sheetRefusal}
+use Rattle.stored.specs.Trace.{cycleCount, cyclesOf, traceRefusal}
 use Rattle.stored.specs.Tree.{pick}
 use Rattle.checker.specs.declared.check.Place.{Place}
 use Rattle.checker.specs.declared.check.Answer.{Answer}
 use Rattle.checker.specs.declared.check.Answer.the-variants.{Refused, Excused, Broken, Holds}
+use Rattle.checker.specs.Table.{placementOf, tableOf, nodeRefusal, orElse}
 use Rattle.translator.specs.declared.TranslateAnswer.{TranslateAnswer}
 use Rattle.translator.specs.declared.TranslateAnswer.the-variants as formula
 
@@ -32,3 +39,27 @@ unpackedFormula r = pick (eqb (r % 256) 4) (formula.Written (r / 256)) (formula.
 abbrev pub SmallFormula : TranslateAnswer → Type 0
 SmallFormula (formula.Written size) = size ≤ 8192
 SmallFormula (formula.Refused number) = number ≤ 8192
+
+-- the table's answer: tag 0 and the refusal's number, 4 and 0 where there is none
+unfoldable pub packedTable : ℕ → ℕ
+packedTable number = cond (eqb number 0) 4 (number * 256)
+
+-- 15. The lent words are 4,096 or more, and the lent rows 64 or more.
+unfoldable pub lentRefusal : List ℕ → List ℕ → ℕ
+lentRefusal words rows = lowest 15 ((leb 4096 (length words) && leb 64 (length rows)) ∷ [])
+
+-- the lowest number that applies to a table written into lent rows, or 0
+unfoldable pub rowsRefusal : List ℕ → List ℕ → ℕ → ℕ → ℕ → ℕ → List ℕ → List ℕ → ℕ
+rowsRefusal s t node p0 p1 p2 words rows =
+    orElse (sheetRefusal s)
+    (orElse (traceRefusal (headerOf s .signals) t)
+    (orElse (lentRefusal words rows)
+    (nodeRefusal (nodesOf s) (headerOf s .nodes) (cycleCount t) (headerOf s .names) node p0 p1 p2)))
+
+-- the 64 rows of a node of a sheet over a trace
+unfoldable pub rowsOf : List ℕ → List ℕ → ℕ → ℕ → ℕ → ℕ → List ℕ
+rowsOf s t node p0 p1 p2 = tableOf (nodesOf s) (cyclesOf t) node (placementOf (headerOf s .names) p0 p1 p2)
+
+-- what the lent rows hold afterwards: the table first, and later ones unchanged; all are unchanged where there is a refusal
+unfoldable pub rowsAfter : ℕ → List ℕ → List ℕ → List ℕ
+rowsAfter number table rows = pick (eqb number 0) (table ++ drop 64 rows) rows

@@ -1,15 +1,22 @@
-// The check and the translator for programs in Rust and C: over numbers and slices only, and with nothing to ask of the caller.
+// The check, the table and the translator for programs in Rust and C: over numbers and slices only, and with nothing to ask of the caller.
 use checker::check::Answer;
 use checker::check::Place;
 use checker::check::check;
+use checker::table::TableAnswer;
+use checker::table::table;
 use translator::TranslateAnswer;
 use translator::translate;
 ghost use mathlib.Core.Path.{_≡_};
+ghost use mathlib.Core.List.{_++_};
+ghost use Prim.Native.Nat.{_*_, _≤_, _<_};
+ghost use lib.ListN.{length, drop};
+ghost use Rattle.stored.specs.Sheet.{headerOf, sheetRefusal};
+ghost use Rattle.stored.specs.Trace.{traceRefusal};
 ghost use Rattle.checker.specs.Check.{checkAnswer, checkRefusal};
-ghost use Rattle.checker.specs.Table.{wordsAfter};
+ghost use Rattle.checker.specs.Table.{orElse, wordsAfter};
 ghost use Rattle.translator.specs.Translated.{Translated};
-ghost use Rattle.printed.specs.Line.{Small, SmallPlace};
-ghost use Rattle.exports.specs.Packed.{packedPlace, packed, packedFormula, unpackedFormula, SmallFormula};
+ghost use Rattle.checker.specs.Small.{Small, SmallPlace};
+ghost use Rattle.exports.specs.Packed.{packedPlace, packed, packedFormula, unpackedFormula, SmallFormula, packedTable, rowsRefusal, rowsOf, rowsAfter};
 
 fn packed_place(place: Place) -> u64
     requires { ⌜ SmallPlace place ⌝ }
@@ -65,4 +72,65 @@ pub extern "C" fn fasunqir_translate(sheet: &[u8], out: &mut [u8]) -> u64
 {
     let answer = translate(sheet, out);
     packed_formula(answer)
+}
+
+// The 64 rows over the first 64 of the lent ones.
+fn put_rows(from: &[u64], rows: &mut [u64])
+    requires { ⌜ (length (now from) ≡ 64) × (64 ≤ length (now rows)) ⌝ }
+    ensures { λ _. ⌜ now (rows .exit) ≡ now (from .entry) ++ drop 64 (now (rows .entry)) ⌝ }
+{
+    let mut b = 0;
+    while b < 64 {
+        rows[b] = from[b];
+        b += 1;
+    }
+}
+
+// The table's answer as its tag and 256 times its value; where there is no refusal its rows go over the first 64 of the lent ones.
+fn put_answer(answer: TableAnswer, rows: &mut [u64]) -> u64
+    requires { ⌜ (answer .refused < 100) × (length (answer .rows) ≡ 64) × (64 ≤ length (now rows)) ⌝ }
+    ensures { λ r. ⌜ r ≡ packedTable (answer .refused) ⌝ }
+    ensures { λ r. ⌜ now (rows .exit) ≡ rowsAfter (answer .refused) (answer .rows) (now (rows .entry)) ⌝ }
+{
+    if answer.refused != 0 {
+        return (answer.refused as u64) * 256;
+    }
+    let from = answer.rows;
+    put_rows(&from, rows);
+    4
+}
+
+// 256 times the refusal's number where too little is lent: the table in one word is always refused, by 15 at the latest.
+fn refused_short(sheet: &[u8], trace: &[u8]) -> u64
+    ensures { λ r. ⌜ r ≡ orElse (sheetRefusal (now (sheet .entry))) (orElse (traceRefusal (headerOf (now (sheet .entry)) .signals) (now (trace .entry))) 15) * 256 ⌝ }
+{
+    let mut few = [0u64; 1];
+    let answer = table(sheet, trace, 0, 0, 0, 0, &mut few);
+    (answer.refused as u64) * 256
+}
+
+// The table of a formula node of a sheet over a trace, names 0, 1 and 2 on cycles p0, p1 and p2 and names from m up ignored:
+// 4 with its 64 rows written over the first 64 of the lent ones, or 256 times the refusal's number. Fewer than 64 rows are
+// refused by 15, as fewer than 4,096 words are. The lent words are all zero afterwards; they and the rows are as they were
+// where a refusal's number is the answer.
+#[no_mangle]
+pub extern "C" fn fasunqir_table(
+    sheet: &[u8],
+    trace: &[u8],
+    node: usize,
+    p0: usize,
+    p1: usize,
+    p2: usize,
+    words: &mut [u64],
+    rows: &mut [u64],
+) -> u64
+    ensures { λ r. ⌜ r ≡ packedTable (rowsRefusal (now (sheet .entry)) (now (trace .entry)) node p0 p1 p2 (now (words .entry)) (now (rows .entry))) ⌝ }
+    ensures { λ r. ⌜ now (words .exit) ≡ wordsAfter (rowsRefusal (now (sheet .entry)) (now (trace .entry)) node p0 p1 p2 (now (words .entry)) (now (rows .entry))) (now (words .entry)) ⌝ }
+    ensures { λ r. ⌜ now (rows .exit) ≡ rowsAfter (rowsRefusal (now (sheet .entry)) (now (trace .entry)) node p0 p1 p2 (now (words .entry)) (now (rows .entry))) (rowsOf (now (sheet .entry)) (now (trace .entry)) node p0 p1 p2) (now (rows .entry)) ⌝ }
+{
+    if rows.len() < 64 {
+        return refused_short(sheet, trace);
+    }
+    let answer = table(sheet, trace, node, p0, p1, p2, words);
+    put_answer(answer, rows)
 }

@@ -2,4 +2,3 @@
 pub mod Texts
 pub mod Answers
 pub mod Lines
-pub mod Bounds

@@ -1,5 +1,5 @@
 -- Document 01, what the program prints: "BROKEN clause i j k", "HOLDS", "EXCUSED clause" or "REFUSED number", and a newline.
-use Prim.Native.Nat.{ℕ, _+_, _<_}
+use Prim.Native.Nat.{ℕ, _+_}
 use mathlib.Core.List.{List, [], _∷_, _++_}
 use mathlib.Core.Path.{_≡_}
 use lib.ListN.{length, getD, replicate}
@@ -54,13 +54,3 @@ pub record Grown (x : Line) (more : List ℕ) (y : Line) : Type 0 where
   pub size : y .length ≡ x .length + length more
   pub whole : length (y .bytes) ≡ 24
   pub text : (l : List ℕ) → x ≡ lineOf l → y ≡ lineOf (l ++ more)
-
--- its numbers have one or two digits
-abbrev pub SmallPlace : Place → Type 0
-SmallPlace p = (p .clause < 100) × (p .i < 100) × (p .j < 100) × (p .k < 100)
-
-abbrev pub Small : Answer → Type 0
-Small (Refused number) = number < 100
-Small (Excused clause) = clause < 100
-Small (Broken p) = SmallPlace p
-Small Holds = 0 < 100

@@ -1,49 +1,17 @@
 -- Laws of what a search asks of a row.
-use Prim.Native.Nat.{ℕ, suc, _-_, _^_, _≤_, _<_}
+use Prim.Native.Nat.{ℕ, suc, _^_, _≤_, _<_}
 use mathlib.Core.Bool.{Bool, not, _&&_}
 use mathlib.Core.Path.{_≡_, sym, ap, ap₂, _∙_}
 use native.Mathlib.Nat.{lt-of-le-of-lt}
 use native.Mathlib.Omega.{arith}
-use lib.Dec.{leb, ltb}
 use lib.Bits.{bitAnd, and-le-l}
-use borrow.Author.Tests.{le-leb, lt-leb}
 use Rattle.semantics.specs.Cycles.{someBelow, someFrom, someIn}
 use Rattle.semantics.specs.Proposition.{bit}
-use Rattle.rows.specs.Row.{word, row, holding, shortestOf}
-use Rattle.semantics.proofs.Tests.{same, both, and-left, and-right, and-comm}
+use Rattle.rows.specs.Row.{word, row, shortestOf}
+use Rattle.semantics.proofs.Tests.{same, both, and-left, and-right}
 use Rattle.semantics.proofs.Cycles.{below-intro, below-elim, some-intro, some-elim}
-use Rattle.rows.proofs.Bits.{bit-and, bit-nothing}
+use Rattle.rows.proofs.Bits.{bit-and}
 use Rattle.rows.proofs.Rows.{word-small, word-bit, is-word, set-intro, set-elim, is-row, row-at}
-use Rattle.rows.proofs.Masks.{cut-bit}
-
-pub holding-none : (set b c : ℕ) → c < b → 0 ≡ holding set b c
-unfolding holding
-holding-none set b c l =
-    is-word 64 0 (λ e. (leb b c && leb c e) && bit set e) (omega arith)
-    (λ e m. bit-nothing e ∙ ap (λ (x : Bool). (x && leb c e) && bit set e) (sym (lt-leb b c l)))
-
-pub holding-is : (set b c : ℕ) → set < 2 ^ 64 → b ≤ c → bitAnd set (2 ^ 64 - 1 - word 64 (λ e. ltb e c)) ≡ holding set b c
-unfolding holding
-holding-is set b c h l =
-    is-word 64 (bitAnd set (2 ^ 64 - 1 - word 64 (λ e. ltb e c))) (λ e. (leb b c && leb c e) && bit set e)
-    (lt-of-le-of-lt (and-le-l set (2 ^ 64 - 1 - word 64 (λ e. ltb e c))) h)
-    (λ e m. cut-bit 64 set c e m ∙ and-comm (bit set e) (leb c e) ∙ ap (λ (x : Bool). (x && leb c e) && bit set e) (sym (le-leb b c l)))
-
--- the intervals of a row that hold cycle c
-pub inside-row : (n : ℕ) (h : ℕ → ℕ → Bool) (b c : ℕ) → n ≤ 64
-    → holding (row n h b) b c ≡ row n (λ b e. (leb b c && leb c e) && h b e) b
-unfolding holding
-inside-row n h b c l =
-    is-row 64 n (word 64 (λ e. (leb b c && leb c e) && bit (row n h b) e)) (λ b e. (leb b c && leb c e) && h b e) b l
-    (word-small 64 (λ e. (leb b c && leb c e) && bit (row n h b) e))
-    (λ e m t.
-    let all = sym (word-bit 64 (λ e. (leb b c && leb c e) && bit (row n h b) e) e m) ∙ t in
-    let s = set-elim n h b e (and-right (leb b c && leb c e) (bit (row n h b) e) all) in
-    record { low = s .low; high = s .high; ok = both (and-left (leb b c && leb c e) (bit (row n h b) e) all) (s .ok) })
-    (λ e s.
-    let x = s .high in
-    word-bit 64 (λ e. (leb b c && leb c e) && bit (row n h b) e) e (omega arith)
-    ∙ ap (λ (y : Bool). (leb b c && leb c e) && y) (row-at n h b e (s .low) (s .high)) ∙ s .ok)
 
 pub shortest-is : (set : ℕ) → set < 2 ^ 64 → bitAnd set (word 64 (λ e. not (someBelow e (bit set)))) ≡ shortestOf set
 unfolding shortestOf

@@ -30,10 +30,6 @@ shifted set i = set * 2 ^ i % 2 ^ 64
 unfoldable pub starred : ℕ → (ℕ → ℕ) → ℕ → ℕ
 starred links words b = word 64 (λ e. eqb b e || someBelow 64 (λ i. (ltb b i && bit links i) && bit (words i) e))
 
--- of row b, the intervals that hold cycle c
-unfoldable pub holding : ℕ → ℕ → ℕ → ℕ
-holding set b c = word 64 (λ e. (leb b c && leb c e) && bit set e)
-
 -- the least cycle of a set alone
 unfoldable pub shortestOf : ℕ → ℕ
 shortestOf set = word 64 (λ e. bit set e && not (someBelow e (bit set)))

@@ -1,13 +1,12 @@
 -- Agreement: the formula of a requirement is true of a trace exactly when the requirement is, for every list of clauses whose parts reach only
 -- names of their sets, and every trace of at least one cycle.
-use Prim.Native.Nat.{ℕ, zero, suc, _-_, _≤_, _<_}
+use Prim.Native.Nat.{ℕ, suc, _-_, _≤_, _<_}
 use native.Mathlib.Omega.{arith}
-use mathlib.Core.Bool.{Bool, true, false, not, cond, _&&_, _||_, false≢true}
+use mathlib.Core.Bool.{Bool, true, false, not, cond, _&&_, _||_}
 use mathlib.Core.List.{List, [], _∷_}
-use mathlib.Core.Path.{_≡_, refl, sym, ap, ap₂, fun-ext, _∙_}
-use lib.Dec.{leb, ltb, eqb}
+use mathlib.Core.Path.{_≡_, refl, sym, _∙_}
 use lib.ListN.{length}
-use Rattle.semantics.specs.Cycles.{someBelow, someFrom, someIn}
+use Rattle.semantics.specs.Cycles.{someIn}
 use Rattle.semantics.specs.Proposition.{Trace, Marks}
 use Rattle.semantics.specs.Formula.{Formula, disjunction, unmarked, trueOf}
 use Rattle.semantics.specs.Placement.{Names, noNames, everyName, union, listed, Placement, unplaced, somePlacement}
@@ -15,14 +14,13 @@ use Rattle.semantics.specs.Clause.{Part, Kind, pref, init, anti, implies
 use Rattle.semantics.specs.Verdict.{hasRole, failsAs, someFails, requirement}
 use Rattle.semantics.specs.Reach.{fits, partsFit, clauseFits, allFit}
 use Rattle.semantics.specs.Translation.{undrawn, placed, once, unansweredOf, brokenOf, brokenClause, joinBroken, translation}
-use Rattle.semantics.proofs.Tests.{same, and-intro, and-left, and-right, or-left, or-right}
+use Rattle.semantics.proofs.Tests.{same, and-intro, and-left, and-right}
 use Rattle.semantics.proofs.Names.{not-none, listed-too, union-left, listed-left, listed-right}
 use Rattle.semantics.proofs.Cycles.{some-cong}
-use Rattle.semantics.proofs.Placement.{placement-cong}
 use Rattle.semantics.proofs.Placed.{Stands, stands-narrower, placed-holds}
 use Rattle.semantics.proofs.Formulas.{Says, says-as, and-is, or-is, not-is, chop-is, nothing-is, prefix-is, suffix-is, shortest-is, part-is, given-is}
 use Rattle.semantics.proofs.Ranges.{someThree, from-start, on-intervals, on-answers, and-some, some-and, swap}
-use Rattle.semantics.proofs.Joined.{Inside, inside-intro, inside-elim, together, join}
+use Rattle.semantics.proofs.Joined.{inside-intro, inside-elim, together, join}
 
 none-stand : (x y : ℕ) (μ : Marks) (ν : Placement) → Stands noNames x y μ ν
 none-stand x y μ ν = record { alike = λ u h. not-none u h }

@@ -1,7 +1,6 @@
 -- Document 01, "Proved examples": E1–E10, of the meanings.
-use Prim.Native.Nat.{ℕ}
 use mathlib.Core.Bool.{true, false}
-use mathlib.Core.List.{List, [], _∷_}
+use mathlib.Core.List.{[], _∷_}
 use mathlib.Core.Path.{_≡_, refl}
 use Rattle.semantics.specs.Cycles.{someBelow, someFrom, countBelow, countFrom}
 use Rattle.semantics.specs.Proposition.{Trace, signal, negated, bothOf, bit, signalAt, holdsAt}

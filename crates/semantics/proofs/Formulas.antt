@@ -1,15 +1,15 @@
 -- What the formulas of a translation hold on, one operator at a time.
-use Prim.Native.Nat.{ℕ, zero, suc, _-_, _≤_, _<_}
+use Prim.Native.Nat.{ℕ, suc, _-_, _≤_, _<_}
 use native.Mathlib.Omega.{arith}
 use mathlib.Core.Bool.{Bool, true, false, not, _&&_, _||_}
-use mathlib.Core.Path.{_≡_, refl, sym, ap, ap₂, _∙_}
-use lib.Dec.{leb, ltb, leb·zero, leb·suc-zero}
+use mathlib.Core.Path.{_≡_, refl, ap, ap₂, _∙_}
+use lib.Dec.{ltb, leb·zero, leb·suc-zero}
 use lib.ListN.{length}
 use borrow.Author.Tests.{ltb-true, lt-ltb}
 use Rattle.semantics.specs.Cycles.{someFrom, someIn}
 use Rattle.semantics.specs.Proposition.{Trace, Marks}
 use Rattle.semantics.specs.Formula.{Formula, chop, conjunction, disjunction, negation, compared, holds}
-use Rattle.semantics.specs.Placement.{Names, union, listed, Placement, marks}
+use Rattle.semantics.specs.Placement.{Names, listed, Placement, marks}
 use Rattle.semantics.specs.Clause.{Part, on, given}
 use Rattle.semantics.specs.Reach.{fits}
 use Rattle.semantics.specs.Translation.{anywhere, extended, nothing, undrawn, placed, shortestOf}

@@ -1,11 +1,10 @@
 -- Two parts that share names: one placement of all their names over some wider interval [low,m], with each part's names inside its own
 -- interval, is the same as a placement of the first part's names and then an agreeing one of the other's.
-use Prim.Native.Nat.{ℕ, zero, suc, _≤_, _<_}
+use Prim.Native.Nat.{ℕ, _≤_, _<_}
 use native.Mathlib.Omega.{arith}
-use mathlib.Core.Bool.{Bool, true, false, not, cond, _&&_, _||_, true≢false}
-use mathlib.Core.Logic.{_⊎_, inl, inr}
+use mathlib.Core.Bool.{Bool, true, false, not, cond, _&&_}
+use mathlib.Core.Logic.{inl, inr}
 use mathlib.Core.Path.{_≡_, refl, sym, ap, subst, fun-ext, _∙_}
-use lib.Dec.{ltb}
 use lib.ListN.{length}
 use Rattle.semantics.specs.Proposition.{Trace}
 use Rattle.semantics.specs.Placement.{Names, noNames, everyName, union, listed, Placement, unplaced, marks, somePlacement}

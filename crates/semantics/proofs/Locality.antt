@@ -4,18 +4,16 @@ use Prim.Native.Nat.{ℕ, zero, suc, _+_, _-_, _≤_, _<_}
 use native.Mathlib.Omega.{arith}
 use mathlib.Core.Bool.{Bool, true, false, not, cond, _&&_, _||_}
 use mathlib.Core.List.{List}
-use mathlib.Core.Logic.{_⊎_, inl, inr}
 use mathlib.Core.Path.{_≡_, refl, sym, ap, ap₂, _∙_}
 use lib.Dec.{leb, eqb}
 use lib.ListN.{length, getD}
-use borrow.Author.Tests.{eqb-true}
-use Rattle.semantics.specs.Cycles.{someFrom, someIn, everyFrom, countFrom, someColumn}
+use Rattle.semantics.specs.Cycles.{someIn, someColumn}
 use Rattle.semantics.specs.Proposition.{Proposition, never, always, signal, name, negated, bothOf, eitherOf, Trace, Marks, signalAt, holdsAt}
 use Rattle.semantics.specs.Formula.{Formula, point, stretch, whole, unit, chop, conjunction, disjunction, star, slen, scount, sdur, drawn, at, gap, negation, forSome}
 use Rattle.semantics.specs.Formula.{Symbol, low, high, either, lowStretch, highStretch, eitherStretch, steady, compared, chain, drawnOn, mark, holds}
 use Rattle.semantics.specs.Placement.{Names}
 use Rattle.semantics.specs.Reach.{propositionWithin, with, within}
-use Rattle.semantics.proofs.Tests.{same, test, and-left, and-right, or-elim}
+use Rattle.semantics.proofs.Tests.{same, and-left, and-right}
 use Rattle.semantics.proofs.Cycles.{some-cong, every-cong, count-cong, column, column-at, column-intro, column-elim}
 
 -- two marked traces agree on [b,e], of the names in K

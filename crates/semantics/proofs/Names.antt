@@ -2,7 +2,7 @@
 use Prim.Native.Nat.{ℕ}
 use mathlib.Core.Bool.{Bool, true, false, not, _&&_, _||_, true≢false, false≢true}
 use mathlib.Core.Logic.{_⊎_}
-use mathlib.Core.Path.{_≡_, refl, sym}
+use mathlib.Core.Path.{_≡_, refl}
 use lib.Dec.{ltb}
 use Rattle.semantics.specs.Placement.{Names, noNames, union, listed}
 use Rattle.semantics.proofs.Tests.{and-intro, and-left, and-right, or-left, or-right, or-elim}

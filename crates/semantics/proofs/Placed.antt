@@ -3,17 +3,17 @@ use Prim.Native.Nat.{ℕ, zero, suc, _≤_, _<_}
 use native.Mathlib.Omega.{arith}
 use mathlib.Core.Bool.{Bool, true, false, not, cond, _&&_, _||_, true≢false}
 use mathlib.Core.List.{List}
-use mathlib.Core.Logic.{_⊎_, inl, inr}
-use mathlib.Core.Path.{_≡_, refl, sym, ap, ap₂, subst, _∙_}
-use lib.Dec.{leb, ltb, eqb}
+use mathlib.Core.Logic.{inl, inr}
+use mathlib.Core.Path.{_≡_, refl, sym, ap₂, subst, _∙_}
+use lib.Dec.{leb, eqb}
 use lib.ListN.{length, getD}
 use borrow.Author.Tests.{leb-true, le-leb, eqb-true, eq-eqb}
-use Rattle.semantics.specs.Cycles.{someIn, countFrom, countIn, someColumn}
+use Rattle.semantics.specs.Cycles.{someIn, countIn, someColumn}
 use Rattle.semantics.specs.Proposition.{Trace, Marks, name, holdsAt}
 use Rattle.semantics.specs.Formula.{Formula, conjunction, scount, equal, forSome, compared, mark, holds}
-use Rattle.semantics.specs.Placement.{Names, union, listed, Placement, marks, moved, placeName, somePlacement}
+use Rattle.semantics.specs.Placement.{Names, union, listed, Placement, moved, placeName, somePlacement}
 use Rattle.semantics.specs.Translation.{onceName, placedName, placed}
-use Rattle.semantics.proofs.Tests.{same, and-intro, and-left, and-right, or-elim, or-left, or-right}
+use Rattle.semantics.proofs.Tests.{same, and-intro, and-left, and-right, or-elim}
 use Rattle.semantics.proofs.Placement.{far, not-near}
 use Rattle.semantics.proofs.Cycles.{some-intro, some-elim, One, one-intro, one-elim, column, column-at, column-intro, column-elim}
 

@@ -1,14 +1,13 @@
 -- Placements: `somePlacement` is document 01's "some placement of Θ over [x,y] that agrees with the one before".
 use Prim.Native.Nat.{ℕ, zero, suc, _≤_, _<_}
 use native.Mathlib.Omega.{arith}
-use mathlib.Core.Bool.{Bool, true, false, not, cond, _&&_, _||_, true≢false}
-use mathlib.Core.Logic.{_⊎_, inl, inr}
-use mathlib.Core.Path.{_≡_, refl, sym, ap, subst, fun-ext, _∙_}
+use mathlib.Core.Bool.{Bool, true, false, not, cond, _&&_, true≢false}
+use mathlib.Core.Path.{_≡_, refl, sym, ap, fun-ext, _∙_}
 use lib.Dec.{leb, ltb, eqb}
 use borrow.Author.Tests.{leb-true, le-leb, eqb-true, ne-eqb, le-ltb}
 use Rattle.semantics.specs.Cycles.{someIn}
 use Rattle.semantics.specs.Placement.{Names, listed, Placement, moved, placeName, somePlacement}
-use Rattle.semantics.proofs.Tests.{same, test, and-intro, and-left, and-right}
+use Rattle.semantics.proofs.Tests.{same, and-intro, and-left, and-right}
 use Rattle.semantics.proofs.Cycles.{some-intro, some-elim}
 
 -- ν′ places `names` over [x,y], each on one cycle inside it, and agrees with ν: a name that was placed before has the same cycle. Names outside

@@ -1,10 +1,10 @@
 -- A clause fails exactly if it is broken at some place; the ranges of i, j and k for each type.
-use Prim.Native.Nat.{ℕ, zero, suc, _-_, _≤_, _<_}
+use Prim.Native.Nat.{ℕ, suc, _-_, _<_}
 use native.Mathlib.Omega.{arith}
-use mathlib.Core.Bool.{Bool, true, false, not, _&&_}
-use mathlib.Core.Path.{_≡_, refl, sym, ap, _∙_}
+use mathlib.Core.Bool.{Bool, true, not, _&&_}
+use mathlib.Core.Path.{_≡_, refl}
 use lib.Dec.{leb, eqb}
-use borrow.Author.Tests.{leb-true, le-leb, eqb-true, eq-eqb}
+use borrow.Author.Tests.{leb-true, le-leb, eq-eqb}
 use Rattle.semantics.specs.Cycles.{someBelow, someFrom, someIn}
 use Rattle.semantics.specs.Placement.{Names, Placement, somePlacement}
 use Rattle.semantics.proofs.Tests.{same, and-intro, and-left, and-right}

@@ -1,11 +1,11 @@
 -- The reading of placements: a clause is broken at i, j, k as `breaksAt` has it exactly if it is in document 01's words, where every part has a
 -- placement of its own Θ over its own interval, and two placements agree if shared names have the same cycle.
-use Prim.Native.Nat.{ℕ, zero, suc, _≤_, _<_}
+use Prim.Native.Nat.{ℕ, suc, _≤_, _<_}
 use native.Mathlib.Omega.{arith}
-use mathlib.Core.Bool.{Bool, true, false, not, cond, _&&_, _||_, true≢false}
-use mathlib.Core.Logic.{_⊎_, inl, inr, _↔_}
-use mathlib.Core.Path.{_≡_, refl, sym, ap, ap₂, _∙_}
-use lib.Dec.{leb, ltb, eqb}
+use mathlib.Core.Bool.{Bool, true, false, not, cond, _&&_, true≢false}
+use mathlib.Core.Logic.{inl, inr, _↔_}
+use mathlib.Core.Path.{_≡_, refl, sym, ap₂, _∙_}
+use lib.Dec.{leb, eqb}
 use lib.ListN.{length}
 use borrow.Author.Tests.{leb-true, le-leb, eqb-true, eq-eqb}
 use Rattle.semantics.specs.Cycles.{someFrom, someIn}

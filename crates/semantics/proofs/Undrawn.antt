@@ -1,18 +1,18 @@
 -- A drawing and the formula that tells it without drawings hold on the same intervals.
-use Prim.Native.Nat.{ℕ, zero, suc, _+_, _-_, _≤_, _<_}
+use Prim.Native.Nat.{ℕ, suc, _+_, _-_, _≤_}
 use native.Mathlib.Omega.{arith}
 use mathlib.Core.Bool.{Bool, true, false, not, _&&_, _||_, false≢true}
 use mathlib.Core.List.{List}
-use mathlib.Core.Path.{_≡_, refl, sym, ap, ap₂, fun-ext, _∙_}
+use mathlib.Core.Path.{_≡_, refl, ap, ap₂, fun-ext, _∙_}
 use lib.Dec.{leb, eqb, leb·zero}
 use lib.ListN.{length}
 use borrow.Author.Tests.{eqb-true, eq-eqb}
-use Rattle.semantics.specs.Cycles.{someFrom, someIn, someColumn}
+use Rattle.semantics.specs.Cycles.{someIn, someColumn}
 use Rattle.semantics.specs.Proposition.{Trace, Marks, signalAt, holdsAt}
 use Rattle.semantics.specs.Formula.{Formula, point, stretch, whole, unit, chop, conjunction, disjunction, star, slen, scount, sdur, drawn, at, gap, negation, forSome}
-use Rattle.semantics.specs.Formula.{Symbol, low, high, either, lowStretch, highStretch, eitherStretch, steady, compared, chain, drawnOn, mark, holds}
+use Rattle.semantics.specs.Formula.{Symbol, low, high, either, lowStretch, highStretch, eitherStretch, steady, compared, drawnOn, mark, holds}
 use Rattle.semantics.specs.Translation.{anywhere, undrawnSymbol, undrawnMark, undrawnGap, undrawn}
-use Rattle.semantics.proofs.Tests.{same, and-left, and-right, and-intro}
+use Rattle.semantics.proofs.Tests.{same}
 use Rattle.semantics.proofs.Cycles.{some-cong, some-none}
 use Rattle.semantics.proofs.Locality.{chain-cong}
 

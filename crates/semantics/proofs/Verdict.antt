@@ -1,18 +1,18 @@
 -- The verdict and the requirement: Broken exactly when the requirement is false, with the first failing commitment and its first broken place;
 -- Excused with the first failing assumption.
-use Prim.Native.Nat.{ℕ, zero, suc, _+_, _≤_, _<_}
+use Prim.Native.Nat.{ℕ, suc, _+_, _<_}
 use native.Mathlib.Omega.{arith}
-use mathlib.Core.Bool.{Bool, true, false, not, cond, _&&_, _||_, true≢false, false≢true}
+use mathlib.Core.Bool.{Bool, true, false, not, cond, _&&_, _||_}
 use mathlib.Core.List.{List, [], _∷_, _++_}
 use mathlib.Core.Logic.{_⊎_, inl, inr}
-use mathlib.Core.Path.{_≡_, refl, sym, ap, subst, _∙_}
+use mathlib.Core.Path.{_≡_, refl, sym, ap, _∙_}
 use lib.ListN.{length}
 use Rattle.semantics.specs.Cycles.{someBelow, firstBelow}
 use Rattle.semantics.specs.Proposition.{Trace}
 use Rattle.semantics.specs.Clause.{Role, assumption, commitment, Clause, breaks, fails}
 use Rattle.semantics.specs.Verdict.{hasRole, failsAs, someFails, requirement, Place, Verdict, Excused, Broken, Holds, isBroken, firstPlace, excusedOr, brokenOr, verdict}
 use Rattle.semantics.proofs.Tests.{is-false, false-not, and-left, and-right}
-use Rattle.semantics.proofs.Cycles.{below-intro, Least, first-least}
+use Rattle.semantics.proofs.Cycles.{below-intro, first-least}
 
 excused-broken : (from : ℕ) (cs : List Clause) (σ : Trace) (v : Verdict)
     → isBroken (excusedOr from cs σ v) ≡ (not (someFails assumption cs σ) && isBroken v)

@@ -1,6 +1,6 @@
 -- Document 01, "Clauses": parts, Ξ, the six types; document 004, section 2.3.
 use Prim.Native.Nat.{ℕ}
-use mathlib.Core.Bool.{Bool, true, false, not, _&&_, _||_}
+use mathlib.Core.Bool.{Bool, not, _&&_}
 use lib.Dec.{leb, eqb}
 use lib.ListN.{length}
 use Rattle.semantics.specs.Cycles.{someBelow, someFrom, someIn}

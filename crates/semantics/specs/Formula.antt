@@ -4,7 +4,7 @@ use mathlib.Core.Bool.{Bool, true, false, not, cond, _&&_, _||_}
 use mathlib.Core.List.{List}
 use lib.Dec.{leb, ltb, eqb}
 use lib.ListN.{length, getD}
-use Rattle.semantics.specs.Cycles.{someFrom, someIn, everyFrom, everyIn, countFrom, countIn, someColumn}
+use Rattle.semantics.specs.Cycles.{someIn, everyFrom, everyIn, countFrom, countIn, someColumn}
 use Rattle.semantics.specs.Proposition.{Proposition, Trace, Marks, signalAt, holdsAt}
 
 -- <, ≤, =, ≥, >

@@ -1,6 +1,6 @@
 -- Which names a formula reaches, and the clauses whose parts reach only names of their own sets (rule 9 of a stored sheet asks it).
 use Prim.Native.Nat.{ℕ}
-use mathlib.Core.Bool.{Bool, true, false, _&&_, _||_}
+use mathlib.Core.Bool.{Bool, true, _&&_, _||_}
 use mathlib.Core.List.{List, [], _∷_}
 use lib.Dec.{eqb}
 use Rattle.semantics.specs.Proposition.{Proposition, never, always, signal, name, negated, bothOf, eitherOf}

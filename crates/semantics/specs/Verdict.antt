@@ -1,8 +1,8 @@
 -- Document 01, "Clauses" (roles and the requirement) and "Verdicts and tables".
-use Prim.Native.Nat.{ℕ, zero, suc}
+use Prim.Native.Nat.{ℕ, suc}
 use mathlib.Core.Bool.{Bool, true, false, not, cond, _&&_, _||_}
 use mathlib.Core.List.{List, [], _∷_}
-use lib.ListN.{length, getD}
+use lib.ListN.{length}
 use Rattle.semantics.specs.Cycles.{someBelow, firstBelow}
 use Rattle.semantics.specs.Proposition.{Trace}
 use Rattle.semantics.specs.Clause.{Role, assumption, commitment, Clause, breaks, fails}

@@ -1,5 +1,5 @@
 -- Demand 3: what the contracts of translate and check ensure of their results gives the joint claim.
-use Prim.Native.Nat.{ℕ, _≤_, _<_}
+use Prim.Native.Nat.{ℕ, _<_}
 use native.Mathlib.Omega.{arith}
 use mathlib.Core.Bool.{Bool, true, false, not, cond}
 use mathlib.Core.List.{List}
@@ -13,12 +13,11 @@ use Rattle.semantics.specs.Verdict.{requirement, isBroken, verdict}
 use Rattle.semantics.proofs.Tests.{not-not}
 use Rattle.semantics.proofs.Verdict.{broken-exactly}
 use Rattle.stored.specs.Sheet.{headerOf, sheetRefusal, clausesOf, requirementOf}
-use Rattle.stored.specs.Trace.{cycleCount, cyclesOf, traceRefusal}
+use Rattle.stored.specs.Trace.{cyclesOf, traceRefusal}
 use Rattle.stored.specs.Emitted.{emittedTrue}
 use Rattle.stored.specs.Tree.{pick}
 use Rattle.stored.proofs.Accepted.{trace-opened, cycles-count}
 use Rattle.checker.specs.declared.check.Answer.{Answer}
-use Rattle.checker.specs.declared.check.Answer.the-variants.{Refused}
 use Rattle.checker.specs.Table.{orElse, wordsRefusal}
 use Rattle.checker.specs.Check.{told, checkRefusal, checkAnswer}
 use Rattle.translator.specs.declared.TranslateAnswer.{TranslateAnswer}

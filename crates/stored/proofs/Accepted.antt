@@ -1,31 +1,29 @@
 -- What acceptance says, opened into one record, and what crates above need of an accepted sheet or trace.
-use Prim.Native.Nat.{ℕ, zero, suc, _+_, _-_, _*_, _/_, _^_, _≤_, _<_}
-use mathlib.Core.Bool.{Bool, true, false, not, cond, _&&_, _||_, false≢true}
-use mathlib.Core.List.{List, [], _∷_}
-use mathlib.Core.Logic.{_⊎_, inl, inr}
-use mathlib.Core.Path.{_≡_, refl, sym, _∙_, ap, ap₂, subst}
+use Prim.Native.Nat.{ℕ, zero, suc, _+_, _*_, _^_, _≤_, _<_}
+use mathlib.Core.Bool.{Bool, true, false, _&&_, false≢true}
+use mathlib.Core.List.{List}
+use mathlib.Core.Path.{_≡_, refl, sym, subst}
 use native.Mathlib.Nat.{pow-le-pow-right}
 use native.Mathlib.Omega.{arith}
-use borrow.Author.Tests.{ltb-true, leb-true, eqb-true, lt-ltb}
-use lib.Dec.{leb, ltb, eqb, eqb→eq}
+use borrow.Author.Tests.{ltb-true, leb-true, eqb-true}
+use lib.Dec.{leb, ltb, eqb}
 use lib.ListN.{length, getD, length-take, length-drop}
 use Rattle.semantics.specs.Proposition.{bit}
 use Rattle.semantics.specs.Placement.{Names}
-use Rattle.semantics.specs.Clause.{Part, Kind, pref, init, anti, implies, follows, triggers, Clause}
+use Rattle.semantics.specs.Clause.{Part, Clause}
 use Rattle.semantics.specs.Reach.{within, fits, partsFit, clauseFits, allFit}
 use Rattle.stored.specs.declared.Node.{Node}
 use Rattle.stored.specs.declared.StoredClause.{StoredClause}
 use Rattle.stored.specs.declared.Header.{Header}
-use Rattle.stored.specs.declared.SheetAnswer.{SheetAnswer}
 use Rattle.stored.specs.declared.SheetAnswer.the-variants.{Accepted, Refused}
 use Rattle.stored.specs.declared.TraceAnswer.{TraceAnswer}
 use Rattle.stored.specs.declared.TraceAnswer.the-variants.{Cycles}
-use Rattle.stored.specs.Bytes.{word, everyBelow, inOrder, lowest}
-use Rattle.stored.specs.Node.{requirementSorts, sortOf, isFormulaNode, fieldsRight, nodeRight, operandsRight}
+use Rattle.stored.specs.Bytes.{inOrder, lowest}
+use Rattle.stored.specs.Node.{requirementSorts, isFormulaNode, nodeRight}
 use Rattle.stored.specs.Tree.{pick, propositionOp, formulaOp, propositionOf, propositionAt, formulaOf, formulaAt}
 use Rattle.stored.specs.Clause.{partsUsed, partRight, clauseRight, partNamed, clauseNamed, clauseRightAt, clauseNamedAt, kindOf, partOf, clauseOf}
-use Rattle.stored.specs.Sheet.{headerOf, clausesStart, sheetEnd, nodePart, clausePart, nodesOf, storedOf, framed, versioned, ofKindOne, counted, sized, nodesRight, operandsFound, clausesRight, clausesNamed, sheetRules, sheetRefusal, sheetAnswer, clauseIn, clausesOf}
-use Rattle.stored.specs.Trace.{cycleCount, cycleAt, traceFramed, traceVersioned, sameSignals, cycleRight, cyclesRight, traceRules, traceRefusal, traceAnswer, cyclesOf}
+use Rattle.stored.specs.Sheet.{headerOf, clausesStart, sheetEnd, nodePart, clausePart, nodesOf, storedOf, counted, sized, nodesRight, operandsFound, clausesRight, clausesNamed, sheetRules, sheetRefusal, sheetAnswer, clauseIn, clausesOf}
+use Rattle.stored.specs.Trace.{cycleCount, cycleAt, cycleRight, cyclesRight, traceRules, traceRefusal, traceAnswer, cyclesOf}
 use Rattle.semantics.proofs.Tests.{and-left, and-right, and-intro}
 use Rattle.stored.proofs.Rules.{every-at, lowest-kept, Lowest, lowest-law, length-inOrder, getD-inOrder}
 use Rattle.stored.proofs.Tree.{Earlier, sort-below, Operands, operands, proposition-law, formula-law}

@@ -1,24 +1,23 @@
 -- The order of the refusals, and rule 9 by reach masks.
-use Prim.Native.Nat.{ℕ, zero, suc, _+_, _-_, _*_, _^_, _≤_, _<_}
-use mathlib.Core.Bool.{Bool, true, false, not, _&&_, _||_}
-use mathlib.Core.List.{List, [], _∷_}
+use Prim.Native.Nat.{ℕ, _^_, _≤_}
+use mathlib.Core.Bool.{Bool, true, false, _&&_}
+use mathlib.Core.List.{List}
 use mathlib.Core.Path.{_≡_, refl, sym, _∙_, ap, ap₂}
 use native.Mathlib.Omega.{arith}
 use borrow.Author.Tests.{ltb-true, leb-true, eqb-true}
 use lib.Dec.{leb, ltb, eqb}
-use lib.ListN.{length, getD}
+use lib.ListN.{length}
 use Rattle.semantics.specs.Proposition.{bit}
 use Rattle.semantics.specs.Reach.{within}
 use Rattle.stored.specs.declared.Node.{Node}
 use Rattle.stored.specs.declared.StoredClause.{StoredClause}
-use Rattle.stored.specs.declared.SheetAnswer.{SheetAnswer}
 use Rattle.stored.specs.declared.SheetAnswer.the-variants.{Accepted, Refused}
 use Rattle.stored.specs.declared.TraceAnswer.{TraceAnswer}
 use Rattle.stored.specs.declared.TraceAnswer.the-variants.{Cycles}
 use Rattle.stored.specs.Bytes.{framedFrom, everyBelow, lowest}
-use Rattle.stored.specs.Node.{requirementSorts, isFormulaNode, nodeRight, operandsRight}
+use Rattle.stored.specs.Node.{requirementSorts, isFormulaNode, nodeRight}
 use Rattle.stored.specs.Tree.{pick, formulaAt}
-use Rattle.stored.specs.Reach.{joint, reachAt, covers, reachTable, entryOf}
+use Rattle.stored.specs.Reach.{joint, reachAt, reachTable, entryOf}
 use Rattle.stored.specs.Clause.{partsUsed, partRight, clauseRight, clauseRightAt, partNamed, clauseNamed, clauseNamedAt, partCovered, clauseCovered, clauseCoveredAt}
 use Rattle.stored.specs.Sheet.{headerOf, nodesOf, storedOf, framed, versioned, ofKindOne, counted, sized, nodesRight, operandsFound, clausesRight, clausesNamed, sheetRules, sheetRefusal, sheetAnswer}
 use Rattle.stored.specs.Trace.{cycleCount, traceFramed, traceVersioned, sameSignals, cyclesRight, traceRules, traceRefusal, traceAnswer}
@@ -26,7 +25,7 @@ use Rattle.semantics.proofs.Tests.{and-left, and-right}
 use Rattle.stored.proofs.Rules.{every-at, every-same}
 use Rattle.stored.proofs.Tree.{Earlier, sort-below}
 use Rattle.stored.proofs.Reach.{NodesKept, reach-law, reach-small, covers-mask, table-at}
-use Rattle.stored.proofs.Accepted.{Counts, counts, mask-small}
+use Rattle.stored.proofs.Accepted.{counts, mask-small}
 
 -- rules 1 to 3
 pub record Framed (s : List ℕ) : Type 0 where

@@ -1,6 +1,6 @@
 -- The form of a kind 2 sheet, opened into one record and made from it.
 use Prim.Native.Nat.{ℕ}
-use mathlib.Core.Bool.{Bool, true, false, _&&_}
+use mathlib.Core.Bool.{true}
 use mathlib.Core.List.{List}
 use mathlib.Core.Path.{_≡_}
 use Rattle.semantics.specs.Placement.{noNames}

@@ -1,11 +1,10 @@
 -- Document 01's example input, and inputs that are refused.
 use Prim.Native.Nat.{ℕ}
-use mathlib.Core.Bool.{Bool, true, false, not, _&&_, _||_}
-use mathlib.Core.List.{List, [], _∷_, _++_}
+use mathlib.Core.List.{List, [], _∷_}
 use mathlib.Core.Path.{_≡_, refl}
 use lib.ListN.{set}
 use Rattle.semantics.specs.Proposition.{signal, bit}
-use Rattle.semantics.specs.Formula.{Formula, point}
+use Rattle.semantics.specs.Formula.{point}
 use Rattle.semantics.specs.Reach.{within, propositionWithin}
 use Rattle.stored.specs.Bytes.{word, framedFrom, everyBelow, inOrder, lowest}
 use Rattle.stored.specs.Node.{nodeAt, sortOf, qUse, aUse, bUse, fieldRight, fieldsRight, nodeRight, sortBelow, operandRight, operandsRight, isFormulaNode}

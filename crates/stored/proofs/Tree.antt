@@ -1,20 +1,19 @@
 -- The tree at a node is the constructor of its op over its operands' trees, and goes by the nodes up to it alone.
-use Prim.Native.Nat.{ℕ, zero, suc, _≤_, _<_}
-use mathlib.Core.Bool.{Bool, true, false, not, _&&_, _||_, false≢true}
+use Prim.Native.Nat.{ℕ, _≤_, _<_}
+use mathlib.Core.Bool.{Bool, true, false, not, _||_, false≢true}
 use mathlib.Core.List.{List, [], _∷_}
-use mathlib.Core.Logic.{_⊎_, inl, inr}
 use mathlib.Core.Path.{_≡_, refl, sym, _∙_, ap, ap₂, subst, fun-ext}
 use native.Mathlib.Omega.{arith}
-use borrow.Author.Tests.{ltb-true, eqb-true, eqb-false, eq-eqb}
+use borrow.Author.Tests.{ltb-true, eqb-true, eq-eqb}
 use lib.Dec.{eqb, ltb}
-use lib.ListN.{length, getD, List·getD-eq-default}
+use lib.ListN.{List·getD-eq-default}
 use Rattle.semantics.specs.Proposition.{Proposition, never, bothOf, eitherOf, negated}
 use Rattle.semantics.specs.Formula.{Formula, below, slen, chop, conjunction, disjunction, star, negation, forSome, point, stretch, whole, unit, scount, sdur}
 use Rattle.stored.specs.declared.Node.{Node}
 use Rattle.stored.specs.Bytes.{everyBelow}
 use Rattle.stored.specs.Node.{requirementSorts, sortOf, sortBelow, aUse, bUse, operandRight, operandsRight}
-use Rattle.stored.specs.Tree.{pick, earlier, made, PropositionOp, neverOp, alwaysOp, signalOp, nameOp, negatedOp, bothOp, eitherOp, noProposition, FormulaOp, pointOp, stretchOp, wholeOp, unitOp, chopOp, conjunctionOp, disjunctionOp, starOp, slenOp, scountOp, sdurOp, drawnOp, atOp, gapOp, negationOp, forSomeOp, noFormula, propositionOp, formulaOps, formulaOp, propositionOf, propositionStep, propositionAt, formulaOf, formulaStep, formulaAt}
-use Rattle.semantics.proofs.Tests.{test, and-left, and-right}
+use Rattle.stored.specs.Tree.{earlier, PropositionOp, neverOp, alwaysOp, signalOp, nameOp, negatedOp, bothOp, eitherOp, noProposition, FormulaOp, pointOp, stretchOp, wholeOp, unitOp, chopOp, conjunctionOp, disjunctionOp, starOp, slenOp, scountOp, sdurOp, drawnOp, atOp, gapOp, negationOp, forSomeOp, noFormula, propositionOp, formulaOps, formulaOp, propositionOf, propositionStep, propositionAt, formulaOf, formulaStep, formulaAt}
+use Rattle.semantics.proofs.Tests.{and-left, and-right}
 use Rattle.stored.proofs.Rules.{asked, every-number}
 use Rattle.stored.proofs.Made.{earlier-at, earlier-same, made-step, made-agree}
 

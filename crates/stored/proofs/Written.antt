@@ -1,9 +1,8 @@
 -- What a written node or header leaves behind: it is read back, and everything else stays.
 use Prim.Native.Nat.{ℕ, zero, suc, _+_, _-_, _*_, _/_, _%_, _≤_, _<_}
-use mathlib.Core.Bool.{Bool, true, false}
 use mathlib.Core.List.{List, [], _∷_}
-use mathlib.Core.Logic.{_⊎_, inl, inr}
-use mathlib.Core.Path.{_≡_, refl, sym, _∙_, ap, ap₂}
+use mathlib.Core.Logic.{inl, inr}
+use mathlib.Core.Path.{_≡_, refl, sym, _∙_, ap}
 use native.Mathlib.Nat.{div-add-mod'}
 use native.Mathlib.Omega.{arith}
 use borrow.Author.Tests.{ltb-true, ltb-false}
@@ -11,10 +10,9 @@ use lib.Dec.{ltb}
 use lib.ListN.{length, getD, set, take, drop, length-set}
 use lib.Seq.{sets, length-sets, getD-set-same, getD-set-other, getD-drop, getD-take, take-set-le, drop-set-lt}
 use Rattle.stored.specs.declared.Node.{Node}
-use Rattle.stored.specs.declared.Header.{Header}
 use Rattle.stored.specs.Bytes.{word}
 use Rattle.stored.specs.Node.{nodeAt}
-use Rattle.stored.specs.Sheet.{headerOf, nodesStart, clausesStart, nodePart, nodesOf}
+use Rattle.stored.specs.Sheet.{headerOf, clausesStart, nodePart, nodesOf}
 use Rattle.stored.specs.Written.{emittedLength, nodeBytes, putNode, emittedHeader, putHeader, nodeIn}
 use Rattle.semantics.proofs.Tests.{test}
 

@@ -1,6 +1,6 @@
 -- A sheet and a trace together: the trace is read only after the sheet was accepted.
 use Prim.Native.Nat.{ℕ}
-use mathlib.Core.Bool.{Bool, true, false, cond}
+use mathlib.Core.Bool.{cond}
 use mathlib.Core.List.{List}
 use lib.Dec.{eqb}
 use Rattle.stored.specs.declared.InputAnswer.{InputAnswer}

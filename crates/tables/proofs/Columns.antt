@@ -1,14 +1,13 @@
 -- Laws of columns.
-use Prim.Native.Nat.{ℕ, zero, suc, _+_, _-_, _*_, _^_, _≤_, _<_}
-use mathlib.Core.Bool.{Bool, true, false, not, cond, _&&_, _||_}
+use Prim.Native.Nat.{ℕ, _+_, _≤_, _<_}
+use mathlib.Core.Bool.{Bool, true, false, _&&_}
 use mathlib.Core.List.{List}
-use mathlib.Core.Logic.{_⊎_, inl, inr}
-use mathlib.Core.Path.{_≡_, refl, sym, _∙_, ap, ap₂}
+use mathlib.Core.Logic.{inl, inr}
+use mathlib.Core.Path.{_≡_, refl, sym, _∙_, ap}
 use native.Mathlib.Omega.{arith}
-use borrow.Author.Tests.{eqb-true, eq-eqb, lt-ltb}
+use borrow.Author.Tests.{eqb-true, lt-ltb}
 use lib.Bits.{bitOr}
-use lib.Dec.{leb, ltb, eqb}
-use lib.ListN.{length, getD}
+use lib.Dec.{ltb, eqb}
 use Rattle.semantics.specs.Proposition.{bit}
 use Rattle.semantics.specs.Placement.{Placement, marks}
 use Rattle.semantics.proofs.Tests.{test, and-false-right}
@@ -16,7 +15,7 @@ use Rattle.rows.specs.Row.{word}
 use Rattle.rows.proofs.Rows.{word-small, word-bit, is-word-in, word-set, word-unset}
 use Rattle.stored.specs.declared.Node.{Node}
 use Rattle.stored.specs.Trace.{cycleAt}
-use Rattle.stored.specs.Tree.{PropositionOp, propositionOp}
+use Rattle.stored.specs.Tree.{propositionOp}
 use Rattle.tables.specs.Table.{standing}
 use Rattle.tables.specs.Step.{signalColumn, nameColumn, columnOf}
 

@@ -1,13 +1,13 @@
 -- Laws of fills: the words of one node, of the nodes passed so far, and of the nodes that a moved name does not reach.
-use Prim.Native.Nat.{ℕ, zero, suc, _+_, _-_, _*_, _/_, _%_, _^_, _≤_, _<_}
-use mathlib.Core.Bool.{Bool, true, false, not, cond, _&&_, _||_}
+use Prim.Native.Nat.{ℕ, _+_, _-_, _*_, _≤_, _<_}
+use mathlib.Core.Bool.{Bool, true, false, not, cond}
 use mathlib.Core.List.{List}
-use mathlib.Core.Logic.{_⊎_, inl, inr}
-use mathlib.Core.Path.{_≡_, refl, sym, _∙_, ap, ap₂, subst}
+use mathlib.Core.Logic.{inl, inr}
+use mathlib.Core.Path.{_≡_, refl, sym, _∙_, ap, subst}
 use native.Mathlib.Omega.{arith}
-use borrow.Author.Tests.{eqb-true, eqb-false, ltb-true, ltb-false, lt-ltb, le-ltb}
-use lib.Dec.{leb, ltb, eqb}
-use lib.ListN.{length, getD, set}
+use borrow.Author.Tests.{eqb-true, eqb-false, ltb-true, ltb-false}
+use lib.Dec.{ltb, eqb}
+use lib.ListN.{length, set}
 use lib.Seq.{getD-set-same, getD-set-other}
 use Rattle.semantics.specs.Proposition.{Proposition, Trace, holdsAt}
 use Rattle.semantics.specs.Formula.{Formula, holds}
@@ -17,10 +17,10 @@ use Rattle.rows.specs.Row.{word, row}
 use Rattle.rows.proofs.Rows.{row-past}
 use Rattle.stored.specs.declared.Node.{Node}
 use Rattle.stored.specs.Node.{requirementSorts, sortOf, nodeAt}
-use Rattle.stored.specs.Trace.{cycleCount, cyclesOf}
+use Rattle.stored.specs.Trace.{cyclesOf}
 use Rattle.stored.specs.Reach.{reachAt, reachTable}
 use Rattle.stored.proofs.Rules.{length-inOrder}
-use Rattle.stored.specs.Tree.{earlier, propositionOp, formulaOp, propositionOf, formulaOf, propositionAt, formulaAt}
+use Rattle.stored.specs.Tree.{earlier, propositionOp, formulaOp, formulaOf, propositionAt, formulaAt}
 use Rattle.stored.proofs.Accepted.{cycles-count}
 use Rattle.stored.proofs.Tree.{operands, proposition-law, formula-law}
 use Rattle.tables.specs.Table.{standing, rowAt, Table, Tables}

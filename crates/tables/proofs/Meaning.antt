@@ -1,6 +1,6 @@
 -- What a fill makes of a node from right words of its operands is the node's table.
-use Prim.Native.Nat.{ℕ, zero, suc, _+_, _-_, _*_, _/_, _%_, _^_, _≤_, _<_}
-use mathlib.Core.Bool.{Bool, true, false, not, cond, _&&_, _||_}
+use Prim.Native.Nat.{ℕ, suc, _+_, _-_, _/_, _%_, _^_, _≤_, _<_}
+use mathlib.Core.Bool.{Bool, true, false, not, _&&_, _||_}
 use mathlib.Core.List.{List}
 use mathlib.Core.Path.{_≡_, refl, sym, _∙_, ap, ap₂}
 use native.Mathlib.Omega.{arith}
@@ -8,7 +8,7 @@ use lib.Bits.{bitAnd, bitOr}
 use lib.Dec.{leb, ltb, eqb}
 use lib.Pow.{pow-pos}
 use Rattle.semantics.specs.Cycles.{someIn, everyFrom, everyIn, countFrom, countIn}
-use Rattle.semantics.specs.Proposition.{Proposition, Trace, bit, signalAt, holdsAt}
+use Rattle.semantics.specs.Proposition.{Proposition, bit, signalAt, holdsAt}
 use Rattle.semantics.specs.Formula.{Formula, Symbol, low, high, either, lowStretch, highStretch, eitherStretch, steady, compared, drawnOn, holds}
 use Rattle.semantics.specs.Placement.{Placement, marks}
 use Rattle.semantics.proofs.Tests.{and-true-right}

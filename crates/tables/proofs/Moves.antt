@@ -1,33 +1,30 @@
 -- A node that reaches none of the moved names keeps its table.
-use Prim.Native.Nat.{ℕ, zero, suc, _+_, _-_, _*_, _≤_, _<_}
-use mathlib.Core.Bool.{Bool, true, false, not, cond, _&&_, _||_, Bool·beq}
+use Prim.Native.Nat.{ℕ, _<_}
+use mathlib.Core.Bool.{Bool, true, false, not, cond, _&&_, _||_}
 use mathlib.Core.List.{List}
-use mathlib.Core.Path.{_≡_, refl, sym, _∙_, ap, ap₂, subst}
+use mathlib.Core.Path.{_≡_, refl, sym, _∙_, ap, subst}
 use native.Mathlib.Omega.{arith}
 use borrow.Author.Tests.{eqb-true}
-use lib.Bits.{bitAnd, bitOr}
-use lib.Dec.{leb, ltb, eqb}
+use lib.Bits.{bitAnd}
+use lib.Dec.{eqb}
 use lib.ListN.{length}
-use Rattle.semantics.specs.Proposition.{Trace, Marks, bit, signalAt}
-use Rattle.semantics.specs.Formula.{Formula, holds}
+use Rattle.semantics.specs.Proposition.{Trace, bit}
+use Rattle.semantics.specs.Formula.{holds}
 use Rattle.semantics.specs.Placement.{Names, Placement, marks}
-use Rattle.semantics.specs.Reach.{within, propositionWithin}
 use Rattle.semantics.proofs.Locality.{Alike, local, at-local}
 use Rattle.semantics.proofs.Tests.{and-left, and-right}
-use Rattle.rows.specs.Row.{word, row}
 use Rattle.rows.proofs.Rows.{row-ext, word-ext}
 use Rattle.stored.specs.declared.Node.{Node}
 use Rattle.stored.specs.Bytes.{everyBelow}
-use Rattle.stored.specs.Node.{nodeAt, requirementSorts}
-use Rattle.stored.specs.Reach.{joint, reachAt, reachTable, covers, entryOf}
+use Rattle.stored.specs.Node.{nodeAt}
+use Rattle.stored.specs.Reach.{joint, reachAt, covers, entryOf}
 use Rattle.stored.specs.Trace.{cyclesOf}
 use Rattle.stored.specs.Tree.{propositionAt, formulaAt}
 use Rattle.stored.proofs.Reach.{NodesKept, reach-law, reach-small, table-at}
 use Rattle.stored.proofs.Rules.{asked, every-at}
-use Rattle.tables.specs.Table.{standing, rowAt, Table, Tables}
-use Rattle.tables.specs.Ready.{Given, Ready, Kept, apart, changed, movedNames}
+use Rattle.tables.specs.Table.{standing, Table, Tables}
+use Rattle.tables.specs.Ready.{Ready, Kept, apart, changed, movedNames}
 use Rattle.tables.proofs.Nodes.{nodes-kept}
-use Rattle.tables.proofs.Fills.{given-length}
 
 -- the names that stay where they are
 unfoldable pub stays : Placement → Placement → Names

@@ -1,16 +1,16 @@
 -- What rules 6 and 7 say of one node.
-use Prim.Native.Nat.{ℕ, _*_, _/_, _%_, _≤_, _<_}
-use mathlib.Core.Bool.{Bool, true, false, not, _&&_, _||_}
+use Prim.Native.Nat.{ℕ, _/_, _%_, _<_}
+use mathlib.Core.Bool.{true, not, _&&_, _||_}
 use mathlib.Core.List.{List}
-use mathlib.Core.Path.{_≡_, refl, sym, _∙_, ap, subst}
+use mathlib.Core.Path.{_≡_, sym, subst}
 use native.Mathlib.Omega.{arith}
-use borrow.Author.Tests.{ltb-true, eqb-true, eqb-false, eq-eqb, not-true}
-use lib.Dec.{ltb, eqb, leb}
+use borrow.Author.Tests.{ltb-true, eqb-false, eq-eqb, not-true}
+use lib.Dec.{ltb, eqb}
 use Rattle.stored.specs.declared.Node.{Node}
-use Rattle.stored.specs.Node.{requirementSorts, sortOf, nodeAt, qUse, aUse, bUse, fieldRight, fieldsRight, nodeRight, operandsRight}
+use Rattle.stored.specs.Node.{requirementSorts, sortOf, nodeAt, qUse, aUse, fieldRight, fieldsRight, nodeRight, operandsRight}
 use Rattle.semantics.proofs.Tests.{and-left, and-right}
 use Rattle.stored.proofs.Rules.{asked, every-at}
-use Rattle.stored.proofs.Tree.{Operands, operands}
+use Rattle.stored.proofs.Tree.{operands}
 use Rattle.stored.proofs.Reach.{NodesKept}
 use Rattle.tables.specs.Ready.{Given}
 use Rattle.tables.specs.Step.{Usable}

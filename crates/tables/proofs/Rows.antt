@@ -1,17 +1,17 @@
 -- Laws of rows in the words.
-use Prim.Native.Nat.{ℕ, zero, suc, _+_, _-_, _*_, _^_, _≤_, _<_}
-use mathlib.Core.Bool.{Bool, true, false, not, cond, _&&_, _||_}
+use Prim.Native.Nat.{ℕ, _+_, _-_, _*_, _≤_, _<_}
+use mathlib.Core.Bool.{Bool, cond, _&&_, _||_}
 use mathlib.Core.List.{List}
-use mathlib.Core.Path.{_≡_, refl, sym, _∙_, ap, ap₂}
+use mathlib.Core.Path.{_≡_, sym, _∙_, ap}
 use native.Mathlib.Omega.{arith}
 use borrow.Author.Tests.{le-ltb, lt-ltb}
-use lib.Dec.{leb, ltb, eqb}
-use lib.ListN.{length, getD, take, drop}
+use lib.Dec.{ltb, eqb}
+use lib.ListN.{getD, take, drop}
 use lib.Seq.{getD-take, getD-drop}
 use Rattle.semantics.specs.Cycles.{someBelow}
 use Rattle.semantics.specs.Proposition.{bit}
 use Rattle.semantics.proofs.Cycles.{below-cong}
-use Rattle.rows.specs.Row.{word, joined, starred}
+use Rattle.rows.specs.Row.{joined, starred}
 use Rattle.rows.proofs.Rows.{word-ext}
 use Rattle.stored.specs.declared.Node.{Node}
 use Rattle.stored.specs.Tree.{FormulaOp, formulaOp}

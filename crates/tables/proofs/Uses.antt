@@ -1,15 +1,18 @@
 -- What an op uses its fields for, over the ops of one family.
 use Prim.Native.Nat.{ℕ, _≤_, _<_}
-use mathlib.Core.Bool.{Bool, true, false, not, _&&_, _||_}
+use mathlib.Core.Bool.{true, not, _&&_, _||_}
 use mathlib.Core.List.{List}
-use mathlib.Core.Path.{_≡_, refl, sym, _∙_, ap}
+use mathlib.Core.Path.{_≡_, refl, ap}
 use native.Mathlib.Omega.{arith}
-use borrow.Author.Tests.{ltb-true, leb-true, eqb-true, eq-eqb, lt-ltb, le-leb}
+use borrow.Author.Tests.{ltb-true, leb-true, eqb-true, eq-eqb, le-leb}
 use lib.Dec.{leb, ltb, eqb}
-use lib.ListN.{length, List·getD-eq-default}
+use lib.ListN.{List·getD-eq-default}
+use Rattle.semantics.specs.Placement.{Placement}
+use Rattle.stored.specs.declared.Node.{Node}
 use Rattle.stored.specs.Bytes.{everyBelow}
 use Rattle.stored.specs.Node.{requirementSorts, sortOf, aUse, qUse}
 use Rattle.semantics.proofs.Tests.{and-left, and-right}
+use Rattle.tables.specs.Step.{firstColumn, secondColumn}
 use Rattle.stored.proofs.Rules.{asked, every-at, every-number}
 
 -- chop, and, or, star
@@ -62,3 +65,16 @@ formula-left k known other =
   where
     left : (s : ℕ) → s ≤ 2 → (s ≡ 0 → ⊥) → (s ≡ 1 → ⊥) → s ≡ 2
     left s h a b = omega arith
+
+-- a chop is a formula, over no columns
+pub chop-formula : (k : ℕ) → k ≡ 20 → sortOf requirementSorts k ≡ 2
+unfolding sortOf
+chop-formula k e = rw e
+
+pub chop-first : (k : ℕ) (x : Node) (trace : List ℕ) (n : ℕ) (ν : Placement) (words : List ℕ) → k ≡ 20 → 0 ≡ firstColumn k x trace n ν words
+unfolding firstColumn aUse qUse
+chop-first k x trace n ν words e = rw e
+
+pub chop-second : (k : ℕ) (x : Node) (n : ℕ) (ν : Placement) → k ≡ 20 → 0 ≡ secondColumn k x n ν
+unfolding secondColumn qUse
+chop-second k x n ν e = rw e

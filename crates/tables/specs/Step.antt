@@ -1,13 +1,12 @@
 -- What a fill makes of one node from its operands' words. The laws say that it is the node's table.
-use Prim.Native.Nat.{ℕ, _+_, _-_, _*_, _/_, _%_, _^_, _≤_, _<_}
-use mathlib.Core.Bool.{Bool, cond, _&&_}
+use Prim.Native.Nat.{ℕ, _+_, _-_, _/_, _%_, _^_, _<_}
+use mathlib.Core.Bool.{cond, _&&_}
 use mathlib.Core.List.{List}
 use mathlib.Core.Path.{_≡_}
 use lib.Bits.{bitAnd, bitOr}
 use lib.Dec.{leb, ltb, eqb}
-use lib.ListN.{length}
 use Rattle.semantics.specs.Cycles.{someIn, everyFrom, everyIn, countFrom, countIn}
-use Rattle.semantics.specs.Proposition.{Proposition, never, signal, name, bit}
+use Rattle.semantics.specs.Proposition.{signal, name, bit}
 use Rattle.semantics.specs.Formula.{compared, drawnOn}
 use Rattle.semantics.specs.Placement.{Placement, marks}
 use Rattle.rows.specs.Row.{word, row, joined, starred}

@@ -7,6 +7,7 @@ ghost use Rattle.stored.specs.Trace.{cyclesOf};
 ghost use Rattle.tables.specs.Table.{standing, Tables};
 ghost use Rattle.tables.specs.Ready.{Given, Ready, Before, Filled, Kept, changed, movedNames};
 use crate::column;
+use crate::line::chop_line;
 use crate::line::line;
 use stored::nodes::node_at;
 
@@ -32,7 +33,34 @@ fn put_column(
     words[64 * i] = set;
 }
 
-// The rows of formula node i, the last first, from those of earlier nodes.
+// The rows of chop node i, the last first, from those of earlier nodes. Most nodes are chops, and their loop has no other op to
+// tell apart.
+fn put_chop(
+    nodes: &[u8],
+    count: usize,
+    trace: &[u8],
+    n: usize,
+    p0: usize,
+    p1: usize,
+    p2: usize,
+    i: usize,
+    words: &mut [u64],
+)
+    requires { ⌜ Given (now nodes) count (now trace) n p0 p1 p2 (now words) ⌝ }
+    requires { ⌜ Before (nodeAt (now nodes)) (cyclesOf (now trace)) n (standing p0 p1 p2) (now words) i ⌝ }
+    requires { ⌜ (i < count) × (nodeAt (now nodes) i .op ≡ 20) ⌝ }
+    ensures { λ r. ⌜ Filled (nodeAt (now (nodes .entry))) (cyclesOf (now (trace .entry))) n (standing p0 p1 p2) i (now (words .entry)) (now (words .exit)) ⌝ }
+{
+    let x = node_at(nodes, i);
+    let mut b = 64;
+    while 0 < b {
+        b -= 1;
+        let row = chop_line(x, n, words, i, b);
+        words[64 * i + b] = row;
+    }
+}
+
+// The same for any other formula node.
 fn put_rows(
     nodes: &[u8],
     count: usize,
@@ -46,7 +74,7 @@ fn put_rows(
 )
     requires { ⌜ Given (now nodes) count (now trace) n p0 p1 p2 (now words) ⌝ }
     requires { ⌜ Before (nodeAt (now nodes)) (cyclesOf (now trace)) n (standing p0 p1 p2) (now words) i ⌝ }
-    requires { ⌜ (i < count) × (sortOf requirementSorts (nodeAt (now nodes) i .op) ≡ formula) ⌝ }
+    requires { ⌜ (i < count) × (sortOf requirementSorts (nodeAt (now nodes) i .op) ≡ formula) × (nodeAt (now nodes) i .op ≡ 20 → ⊥) ⌝ }
     ensures { λ r. ⌜ Filled (nodeAt (now (nodes .entry))) (cyclesOf (now (trace .entry))) n (standing p0 p1 p2) i (now (words .entry)) (now (words .exit)) ⌝ }
 {
     let x = node_at(nodes, i);
@@ -78,7 +106,12 @@ fn put_node(
     ensures { λ r. ⌜ Filled (nodeAt (now (nodes .entry))) (cyclesOf (now (trace .entry))) n (standing p0 p1 p2) i (now (words .entry)) (now (words .exit)) ⌝ }
 {
     let x = node_at(nodes, i);
-    let sort = stored::nodes::sort_of(x.op);
+    let op = x.op;
+    if op == 20 {
+        put_chop(nodes, count, trace, n, p0, p1, p2, i, words);
+        return;
+    }
+    let sort = stored::nodes::sort_of(op);
     if sort == 1 {
         put_column(nodes, count, trace, n, p0, p1, p2, i, words);
     } else {

@@ -67,7 +67,7 @@ fn shape_row(x: Node, n: usize, first: u64, second: u64, words: &[u64], own: usi
     }
 }
 
-// Chop, and, or, star.
+// And, or, star.
 fn joined_row(
     x: Node,
     n: usize,
@@ -78,14 +78,13 @@ fn joined_row(
     b: usize,
 ) -> u64
     requires { ⌜ Usable x own ⌝ }
-    requires { ⌜ (20 ≤ x .op) × (x .op < 24) × (b < 64) × (64 * own + 64 ≤ length (now words)) ⌝ }
+    requires { ⌜ (21 ≤ x .op) × (x .op < 24) × (b < 64) × (64 * own + 64 ≤ length (now words)) ⌝ }
     ensures { λ r. ⌜ r ≡ rowOf (formulaOp (x .op)) x n first second (now (words .entry)) own b ⌝ }
 {
     let op = x.op;
     let other = x.b;
     let left = row_at(words, x.a, b);
     match op {
-        20 => joined_at(left, words, other),
         21 => left & row_at(words, other, b),
         22 => left | row_at(words, other, b),
         _ => starred_at(left, words, own, b),
@@ -132,10 +131,23 @@ fn drawing_row(
     }
 }
 
-// Row b, 0 past the last cycle.
+// Row b of a chop, 0 past the last cycle.
+pub fn chop_line(x: Node, n: usize, words: &[u64], own: usize, b: usize) -> u64
+    requires { ⌜ Usable x own ⌝ }
+    requires { ⌜ (x .op ≡ 20) × (n ≤ 64) × (64 * own + 64 ≤ length (now words)) ⌝ }
+    ensures { λ r. ⌜ r ≡ lineOf (formulaOp (x .op)) x n 0 0 (now (words .entry)) own b ⌝ }
+{
+    if n <= b {
+        return 0;
+    }
+    let left = row_at(words, x.a, b);
+    joined_at(left, words, x.b)
+}
+
+// Row b of any other formula, 0 past the last cycle.
 pub fn line(x: Node, n: usize, first: u64, second: u64, words: &[u64], own: usize, b: usize) -> u64
     requires { ⌜ Usable x own ⌝ }
-    requires { ⌜ (16 ≤ x .op) × (x .op < 30) × (n ≤ 64) × (64 * own + 64 ≤ length (now words)) ⌝ }
+    requires { ⌜ (16 ≤ x .op) × (x .op < 30) × (x .op ≡ 20 → ⊥) × (n ≤ 64) × (64 * own + 64 ≤ length (now words)) ⌝ }
     ensures { λ r. ⌜ r ≡ lineOf (formulaOp (x .op)) x n first second (now (words .entry)) own b ⌝ }
 {
     let op = x.op;

@@ -1,8 +1,8 @@
 -- In the formula of clauses that fit, each name stands under its quantifier.
 use Prim.Native.Nat.{ℕ, zero, suc, _<_}
-use mathlib.Core.Bool.{Bool, true, false, not, cond, _&&_, _||_, true≢false, false≢true}
+use mathlib.Core.Bool.{Bool, true, false, not, cond, _&&_, _||_, false≢true}
 use mathlib.Core.List.{List, [], _∷_}
-use mathlib.Core.Logic.{_⊎_, inl, inr}
+use mathlib.Core.Logic.{inl, inr}
 use mathlib.Core.Path.{_≡_, refl, sym, _∙_, ap}
 use native.Mathlib.Omega.{arith}
 use borrow.Author.Tests.{ltb-true, lt-ltb, eq-eqb}
@@ -14,7 +14,7 @@ use Rattle.semantics.specs.Clause.{Part, Kind, pref, init, anti, implies, follo
 use Rattle.semantics.specs.Verdict.{hasRole}
 use Rattle.semantics.specs.Reach.{propositionWithin, with, within, fits, partsFit, clauseFits, allFit}
 use Rattle.semantics.specs.Translation.{anywhere, extended, nothing, undrawnSymbol, undrawnMark, undrawnGap, undrawn, onceName, placedName, placed, once, shortestOf, unansweredOf, brokenOf, brokenClause, joinBroken, translation}
-use Rattle.semantics.proofs.Tests.{test, both, and-left, and-right, or-left, or-right, or-elim}
+use Rattle.semantics.proofs.Tests.{both, and-left, and-right, or-left, or-right, or-elim}
 use Rattle.semantics.proofs.Names.{listed-is}
 
 -- the names of one set are names of another

@@ -2,7 +2,7 @@
 use Prim.Native.Nat.{ℕ, zero, suc, _+_, _*_, _/_, _%_, _≤_, _<_}
 use mathlib.Core.Bool.{Bool, true, false, not, cond, _&&_, _||_, true≢false, false≢true}
 use mathlib.Core.List.{List}
-use mathlib.Core.Logic.{_⊎_, inl, inr}
+use mathlib.Core.Logic.{inl, inr}
 use mathlib.Core.Path.{_≡_, refl, sym, _∙_, ap, ap₂, subst}
 use native.Mathlib.Omega.{arith}
 use borrow.Author.Tests.{leb-true, eqb-true, eqb-false, ne-eqb, eq-eqb, ltb-true}
@@ -10,20 +10,19 @@ use lib.Dec.{leb, ltb, eqb}
 use lib.ListN.{length, getD, set, List·getD-eq-default}
 use lib.Seq.{getD-set-same, getD-set-other}
 use Rattle.semantics.specs.Proposition.{Proposition, negated, bothOf, eitherOf}
-use Rattle.semantics.specs.Formula.{Formula, point, stretch, whole, unit, chop, conjunction, disjunction, star, scount, sdur, negation, forSome, slen, below}
+use Rattle.semantics.specs.Formula.{Formula, point, stretch, whole, unit, chop, conjunction, disjunction, star, scount, sdur, negation, forSome, below}
 use Rattle.semantics.specs.Cycles.{countBelow}
 use Rattle.semantics.specs.Translation.{undrawn}
 use Rattle.semantics.proofs.Tests.{test, and-left, and-right, and-intro}
 use Rattle.stored.specs.declared.Node.{Node}
-use Rattle.stored.specs.declared.Header.{Header}
 use Rattle.stored.specs.Bytes.{word, everyBelow}
 use Rattle.stored.specs.Node.{requirementSorts, emittedSorts, sortOf, qUse, aUse, bUse, nodeAt, fieldRight, fieldsRight, operandRight, operandsRight}
 use Rattle.stored.specs.Tree.{comparisonOf, PropositionOp, FormulaOp, propositionOp, formulaOp, propositionOf, propositionAt, formulaOf, formulaAt}
 use Rattle.stored.specs.Reach.{entryOf}
 use Rattle.stored.specs.Sheet.{headerOf}
 use Rattle.stored.specs.Written.{nodeIn, NodeFits}
-use Rattle.stored.proofs.Rules.{asked, every-number}
-use Rattle.stored.proofs.Tree.{proposition-cases, formula-cases, Earlier, Operands, operands, proposition-law, formula-law}
+use Rattle.stored.proofs.Rules.{every-number}
+use Rattle.stored.proofs.Tree.{proposition-cases, formula-cases, operands, proposition-law, formula-law}
 use Rattle.translator.specs.Bound.{isDrawing, drawingAt}
 use Rattle.translator.specs.Emission.{mostNodes, count, propositionIn, formulaIn, Good, Step, HasProposition, Has, Emits, Addable, Added}
 use Rattle.translator.specs.Copying.{Stands, Mapped, mappedTo, copiedNode, noPropositions, noFormulas, drawingOf, copyCost, copyCosts}

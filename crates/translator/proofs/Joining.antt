@@ -1,37 +1,34 @@
 -- The clauses joined by role, and the root over them.
-use Prim.Native.Nat.{ℕ, zero, suc, _+_, _*_, _^_, _≤_, _<_}
-use mathlib.Core.Bool.{Bool, true, false, not, cond, _&&_, _||_}
+use Prim.Native.Nat.{ℕ, zero, suc, _+_, _*_, _≤_, _<_}
+use mathlib.Core.Bool.{Bool, true, false, cond}
 use mathlib.Core.List.{List, [], _∷_}
-use mathlib.Core.Logic.{_⊎_, inl, inr}
+use mathlib.Core.Logic.{inl, inr}
 use mathlib.Core.Path.{_≡_, refl, sym, _∙_, ap, ap₂, subst}
 use native.Mathlib.Numerals.{add-one}
 use native.Mathlib.Omega.{arith}
 use borrow.Author.Tests.{eqb-true, eqb-false}
 use lib.Dec.{eqb, ltb}
-use lib.ListN.{length, getD, set, drop, replicate}
+use lib.ListN.{length, getD, set, drop}
 use lib.Seq.{getD-set-same, getD-set-other, drop-cons, drop-length}
 use Rattle.semantics.specs.Proposition.{bit}
-use Rattle.semantics.specs.Formula.{Formula, chop, conjunction, disjunction, negation}
-use Rattle.semantics.specs.Placement.{Names, noNames, union}
-use Rattle.semantics.specs.Clause.{Part, Kind, Role, assumption, commitment, Clause}
+use Rattle.semantics.specs.Formula.{Formula, disjunction, negation}
+use Rattle.semantics.specs.Placement.{Names}
+use Rattle.semantics.specs.Clause.{Role, Clause}
 use Rattle.semantics.specs.Verdict.{sameRole, hasRole}
-use Rattle.semantics.specs.Translation.{anywhere, nothing, undrawn, placed, once, unansweredOf, brokenOf, brokenClause, joinBroken, translation}
+use Rattle.semantics.specs.Translation.{nothing, undrawn, brokenOf, brokenClause, joinBroken, translation}
 use Rattle.semantics.proofs.Tests.{test}
 use Rattle.stored.specs.declared.Node.{Node}
 use Rattle.stored.specs.declared.StoredClause.{StoredClause}
-use Rattle.stored.specs.declared.Header.{Header}
-use Rattle.stored.specs.Bytes.{inOrder}
-use Rattle.stored.specs.Node.{requirementSorts, nodeAt}
+use Rattle.stored.specs.Node.{nodeAt}
 use Rattle.stored.specs.Tree.{formulaAt}
 use Rattle.stored.specs.Reach.{entryOf}
 use Rattle.stored.specs.Clause.{storedAt, partsUsed, kindOf, roleOf, partOf, clauseOf}
 use Rattle.stored.specs.Sheet.{headerOf}
 use Rattle.stored.proofs.Rules.{length-inOrder, getD-inOrder}
-use Rattle.stored.proofs.Tree.{Earlier}
 use Rattle.stored.proofs.Accepted.{PartKept, ClauseKept, clause-kept, kind-cases}
-use Rattle.translator.specs.Emission.{count, formulaIn, Step, Has, Emits, Shared, Ready, PartIn, PartsIn, Added}
-use Rattle.translator.specs.Copying.{Stands, Mapped, ClausesIn, brokenIn, ClauseIn, clauseAt, clausesAt}
-use Rattle.translator.proofs.Steps.{steps, has-kept, formed, over₂, over, emits-as}
+use Rattle.translator.specs.Emission.{formulaIn, Step, Has, Emits, Ready, PartIn, Added}
+use Rattle.translator.specs.Copying.{Mapped, ClausesIn, brokenIn, ClauseIn, clauseAt, clausesAt}
+use Rattle.translator.proofs.Steps.{has-kept, formed, over, emits-as}
 use Rattle.translator.proofs.Nodes.{node, or-made}
 
 -- ---- a clause over the copies

@@ -1,12 +1,12 @@
 -- Placed names: what a name takes, and sets of names as masks.
-use Prim.Native.Nat.{ℕ, zero, suc, _+_, _*_, _^_, _≤_, _<_}
+use Prim.Native.Nat.{ℕ, zero, suc, _*_, _^_, _≤_, _<_}
 use mathlib.Core.Bool.{Bool, true, false, not, cond, _&&_, _||_}
 use mathlib.Core.List.{List}
-use mathlib.Core.Logic.{_⊎_, inl, inr}
-use mathlib.Core.Path.{_≡_, refl, sym, _∙_, ap, ap₂, fun-ext}
+use mathlib.Core.Logic.{inl, inr}
+use mathlib.Core.Path.{_≡_, refl, sym, _∙_, ap, fun-ext}
 use native.Mathlib.Omega.{arith}
-use borrow.Author.Tests.{ltb-true, lt-ltb, leb-true, eqb-true, ltb-false, le-ltb}
-use lib.Dec.{ltb, leb, eqb}
+use borrow.Author.Tests.{ltb-true, lt-ltb, leb-true}
+use lib.Dec.{ltb, leb}
 use Rattle.semantics.specs.Proposition.{bit, name}
 use Rattle.semantics.specs.Formula.{Formula, conjunction, scount, equal, forSome}
 use Rattle.semantics.specs.Placement.{Names, noNames, everyName, union, listed}
@@ -14,11 +14,10 @@ use Rattle.semantics.specs.Translation.{onceName, placedName, placed, once}
 use Rattle.semantics.proofs.Tests.{test}
 use Rattle.stored.specs.Bytes.{everyBelow}
 use Rattle.stored.specs.Reach.{joint}
-use Rattle.stored.specs.Sheet.{headerOf}
 use Rattle.stored.proofs.Rules.{every-at, asked}
 use Rattle.stored.proofs.Reach.{bit-listed, joint-small}
 use Rattle.stored.proofs.Accepted.{mask-small}
-use Rattle.translator.specs.Emission.{count, Good, Step, Has, Emits, placedCost, placedCosts}
+use Rattle.translator.specs.Emission.{Good, Has, Emits, placedCost, placedCosts}
 use Rattle.translator.proofs.Steps.{stay, steps, emits-as}
 
 -- ---- masks below 8, computed once over all

@@ -1,21 +1,19 @@
 -- Which nodes may come next, and what they are, by constructor.
-use Prim.Native.Nat.{ℕ, _+_, _*_, _≤_, _<_}
-use mathlib.Core.Bool.{Bool, true, false, cond}
+use Prim.Native.Nat.{ℕ, _<_}
+use mathlib.Core.Bool.{true}
 use mathlib.Core.List.{List}
-use mathlib.Core.Path.{_≡_, refl, sym, _∙_, ap, ap₂}
+use mathlib.Core.Path.{_≡_, refl, ap, ap₂}
 use native.Mathlib.Omega.{arith}
 use borrow.Author.Tests.{lt-ltb, eq-eqb}
-use lib.Dec.{ltb, leb, eqb}
-use lib.ListN.{getD}
+use lib.Dec.{eqb}
 use Rattle.semantics.specs.Proposition.{Proposition, signal, name, negated}
 use Rattle.semantics.specs.Formula.{Formula, point, stretch, unit, chop, conjunction, disjunction, slen, scount, negation, forSome}
 use Rattle.stored.specs.declared.Node.{Node}
-use Rattle.stored.specs.declared.Header.{Header}
 use Rattle.stored.specs.Node.{emittedSorts, sortOf, sortBelow, qUse, aUse, bUse, fieldRight, fieldsRight, operandRight}
 use Rattle.stored.specs.Tree.{propositionOp, formulaOp, propositionOf, formulaOf, comparisonOf}
 use Rattle.stored.specs.Sheet.{headerOf}
-use Rattle.stored.specs.Written.{nodeIn, NodeFits}
-use Rattle.translator.specs.Emission.{mostNodes, count, propositionIn, formulaIn, Good, HasProposition, Has, Emits, EmitsProposition, Addable, Added}
+use Rattle.stored.specs.Written.{nodeIn}
+use Rattle.translator.specs.Emission.{mostNodes, count, Good, HasProposition, Has, Emits, EmitsProposition, Addable, Added}
 use Rattle.translator.proofs.Steps.{has-kept, proposition-kept, made-proposition, made-formula}
 
 abbrev pub node : ℕ → ℕ → ℕ → ℕ → Node

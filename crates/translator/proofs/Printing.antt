@@ -1,19 +1,17 @@
 -- From what translate promises to what the program writes.
-use Prim.Native.Nat.{ℕ, _+_, _≤_, _<_}
-use mathlib.Core.Bool.{Bool, true, false, cond, _&&_, true≢false, false≢true}
-use mathlib.Core.List.{List, [], _∷_, _++_}
-use mathlib.Core.Logic.{_⊎_, inl, inr}
+use Prim.Native.Nat.{ℕ, _≤_, _<_}
+use mathlib.Core.Bool.{Bool, true, false, cond, false≢true}
+use mathlib.Core.List.{List}
+use mathlib.Core.Logic.{inl, inr}
 use mathlib.Core.Path.{_≡_, refl, sym, _∙_, ap, subst}
 use native.Mathlib.Omega.{arith}
-use borrow.Author.Tests.{le-ltb, ltb-false, eq-eqb, ne-eqb}
+use borrow.Author.Tests.{le-ltb}
 use lib.Dec.{eqb, ltb}
 use lib.ListN.{length, take, drop, length-take}
 use lib.Seq.{sets, sets-eq, length-sets}
-use Rattle.semantics.proofs.Tests.{test}
 use Rattle.stored.specs.Bytes.{framedFrom}
 use Rattle.stored.specs.Sheet.{framed, sheetRules, sheetRefusal}
 use Rattle.stored.specs.Emitted.{isEmitted}
-use Rattle.stored.proofs.Rules.{Lowest}
 use Rattle.stored.proofs.Accepted.{sheet-lowest}
 use Rattle.stored.proofs.Written.{drop-after}
 use Rattle.translator.specs.declared.TranslateAnswer.{TranslateAnswer}

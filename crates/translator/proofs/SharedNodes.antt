@@ -1,9 +1,8 @@
 -- The shared nodes come at their numbers.
-use Prim.Native.Nat.{ℕ, _+_, _*_, _≤_, _<_}
-use mathlib.Core.Bool.{Bool, true, false}
+use Prim.Native.Nat.{ℕ, _+_, _*_}
 use mathlib.Core.List.{List}
-use mathlib.Core.Logic.{_⊎_, inl, inr}
-use mathlib.Core.Path.{_≡_, refl, sym, _∙_, ap, subst}
+use mathlib.Core.Logic.{inl, inr}
+use mathlib.Core.Path.{_≡_, sym, _∙_, subst}
 use native.Mathlib.Omega.{arith}
 use borrow.Author.Tests.{eqb-true, eqb-false}
 use lib.Dec.{eqb}
@@ -12,8 +11,7 @@ use Rattle.semantics.specs.Formula.{equal, scount}
 use Rattle.semantics.specs.Translation.{anywhere, extended, nothing}
 use Rattle.semantics.proofs.Tests.{test}
 use Rattle.stored.specs.Tree.{comparisonOf}
-use Rattle.stored.specs.Sheet.{headerOf}
-use Rattle.translator.specs.Emission.{count, Good, Step, HasProposition, Has, Emits, Added, Shared}
+use Rattle.translator.specs.Emission.{count, HasProposition, Has, Added, Shared}
 use Rattle.translator.proofs.Steps.{steps, has-kept, proposition-kept, at, at-proposition, shared-kept}
 use Rattle.translator.proofs.Nodes.{node, slen-made, name-made, once-made}
 

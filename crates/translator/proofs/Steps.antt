@@ -1,11 +1,11 @@
 -- New nodes leave the earlier ones: steps compose, and what a node is stays.
-use Prim.Native.Nat.{ℕ, zero, suc, _+_, _*_, _^_, _≤_, _<_}
+use Prim.Native.Nat.{ℕ, _+_, _*_, _^_, _≤_, _<_}
 use mathlib.Core.Bool.{Bool, true, false, cond, _&&_}
 use mathlib.Core.List.{List}
-use mathlib.Core.Logic.{_⊎_, inl, inr}
+use mathlib.Core.Logic.{inl, inr}
 use mathlib.Core.Path.{_≡_, refl, sym, _∙_, ap, ap₂, subst}
 use native.Mathlib.Omega.{arith}
-use borrow.Author.Tests.{ltb-true, ltb-false, eqb-true, eqb-false}
+use borrow.Author.Tests.{ltb-true, eqb-true, eqb-false}
 use lib.Dec.{ltb, eqb}
 use lib.ListN.{length, getD, drop}
 use Rattle.semantics.specs.Proposition.{Proposition}
@@ -18,9 +18,9 @@ use Rattle.stored.specs.Node.{emittedSorts, sortOf, sortBelow, aUse, bUse, fiel
 use Rattle.stored.specs.Tree.{propositionOp, formulaOp, propositionOf, formulaOf}
 use Rattle.stored.specs.Sheet.{headerOf}
 use Rattle.stored.specs.Written.{nodeIn, putNode, putHeader, emittedHeader}
-use Rattle.stored.proofs.Written.{put-length, put-back, put-read, put-other, put-header-same, header-length, header-back, header-nodes, header-byte, header-read, header-rest}
+use Rattle.stored.proofs.Written.{put-length, put-back, put-read, put-other, header-length, header-back, header-nodes, header-byte, header-read, header-rest}
 use Rattle.stored.proofs.Tree.{proposition-law, formula-law, proposition-agree, formula-agree}
-use Rattle.translator.specs.Emission.{mostNodes, count, propositionIn, formulaIn, Good, Step, HasProposition, Has, Emits, EmitsProposition, Addable, Added, Shared, Ready}
+use Rattle.translator.specs.Emission.{count, propositionIn, formulaIn, Good, Step, HasProposition, Has, Emits, EmitsProposition, Addable, Added, Shared, Ready}
 
 -- ---- steps
 pub stay : {x : List ℕ} → Good x → Step x x 0

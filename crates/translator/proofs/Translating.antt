@@ -1,25 +1,23 @@
 -- From the bytes written to what translate promises.
-use Prim.Native.Nat.{ℕ, zero, suc, _+_, _-_, _*_, _≤_, _<_}
-use mathlib.Core.Bool.{Bool, true, false, cond, _&&_}
+use Prim.Native.Nat.{ℕ, _+_, _-_, _*_, _≤_, _<_}
+use mathlib.Core.Bool.{Bool, true, false}
 use mathlib.Core.List.{List}
-use mathlib.Core.Path.{_≡_, refl, sym, _∙_, ap, ap₂, subst}
+use mathlib.Core.Path.{_≡_, refl, sym, _∙_, ap, subst}
 use native.Mathlib.Omega.{arith}
 use borrow.Author.Tests.{le-leb, eq-eqb, eqb-true, ne-eqb, lt-ltb, le-ltb}
-use lib.Dec.{leb, ltb, eqb}
+use lib.Dec.{eqb}
 use lib.ListN.{length, getD, take, drop, length-take}
-use Rattle.semantics.specs.Proposition.{Trace}
 use Rattle.semantics.specs.Formula.{Formula, trueOf}
 use Rattle.semantics.specs.Placement.{noNames}
 use Rattle.semantics.specs.Reach.{within}
-use Rattle.semantics.specs.Cycles.{countBelow}
 use Rattle.semantics.specs.Translation.{translation}
 use Rattle.semantics.proofs.Agreement.{agreement}
 use Rattle.semantics.proofs.Tests.{and-intro}
 use Rattle.stored.specs.declared.Node.{Node}
 use Rattle.stored.specs.declared.Header.{Header}
 use Rattle.stored.specs.declared.SheetAnswer.{SheetAnswer}
-use Rattle.stored.specs.Bytes.{word, everyBelow, framedFrom}
-use Rattle.stored.specs.Node.{emittedSorts, sortOf, sortBelow, nodeAt, nodeRight, fieldsRight, operandsRight, isFormulaNode}
+use Rattle.stored.specs.Bytes.{word, framedFrom}
+use Rattle.stored.specs.Node.{emittedSorts, sortOf, sortBelow, nodeRight, isFormulaNode}
 use Rattle.stored.specs.Tree.{pick, formulaAt}
 use Rattle.stored.specs.Sheet.{headerOf, sheetEnd, nodePart, clausePart, nodesOf, storedOf, framed, versioned, sized, sheetRefusal, sheetAnswer, sheetNumber, clauseIn, clausesOf, requirementOf}
 use Rattle.stored.specs.Emitted.{ofKindTwo, emittedCounted, rootOf, emittedFormula, emittedNodes, emittedOperands, isEmitted, emittedTrue}
@@ -27,15 +25,15 @@ use Rattle.stored.specs.Written.{nodeIn, putHeader, emittedHeader, emittedLengt
 use Rattle.stored.proofs.Rules.{every-all}
 use Rattle.stored.proofs.Tree.{formula-agree}
 use Rattle.stored.proofs.Written.{header-length, header-back, header-byte, header-read, header-rest, nodes-in, taken-byte, taken-header, taken-node}
-use Rattle.stored.proofs.Emitted.{Emitted, emitted-made}
-use Rattle.stored.proofs.Accepted.{Opened, Counts, length-nodes, length-clauses, accepted-fits, answer-accepted}
+use Rattle.stored.proofs.Emitted.{emitted-made}
+use Rattle.stored.proofs.Accepted.{Opened, length-nodes, length-clauses, accepted-fits, answer-accepted}
 use Rattle.stored.proofs.Both.{answer-refused}
 use Rattle.translator.specs.declared.TranslateAnswer.{TranslateAnswer}
 use Rattle.translator.specs.declared.TranslateAnswer.the-variants.{Written, Refused}
 use Rattle.translator.specs.Answer.{translateRefusal, translateAnswer, translateNumber, writtenLength}
 use Rattle.translator.specs.Bound.{drawings, nodeBound}
 use Rattle.translator.specs.Translated.{FormulaOf, Translated}
-use Rattle.translator.specs.Emission.{mostNodes, count, formulaIn, Good, Step, Has, Emits}
+use Rattle.translator.specs.Emission.{count, formulaIn, Good, Step, Has, Emits}
 use Rattle.translator.specs.Copying.{copyCosts, NodesIn, ClausesIn, clauseAt, clausesAt, requirementCost}
 use Rattle.translator.proofs.Steps.{steps, operands-same}
 use Rattle.translator.proofs.Joining.{joined-bound}

@@ -5,7 +5,6 @@ use mathlib.Core.List.{List}
 use lib.Dec.{leb}
 use Rattle.semantics.specs.Cycles.{countBelow}
 use Rattle.stored.specs.declared.Node.{Node}
-use Rattle.stored.specs.declared.Header.{Header}
 use Rattle.stored.specs.Sheet.{headerOf, nodesOf}
 
 -- ops 27 to 29

@@ -1,6 +1,6 @@
 -- The sheet's nodes and clauses, as they are copied.
 use Prim.Native.Nat.{ℕ, _+_, _*_, _≤_, _<_}
-use mathlib.Core.Bool.{Bool, true, cond, _||_}
+use mathlib.Core.Bool.{true, cond, _||_}
 use mathlib.Core.List.{List}
 use mathlib.Core.Path.{_≡_}
 use lib.Dec.{eqb}
@@ -12,7 +12,6 @@ use Rattle.semantics.specs.Cycles.{countBelow}
 use Rattle.semantics.specs.Translation.{nothing, undrawn, brokenOf}
 use Rattle.stored.specs.declared.Node.{Node}
 use Rattle.stored.specs.declared.StoredClause.{StoredClause}
-use Rattle.stored.specs.declared.Header.{Header}
 use Rattle.stored.specs.Bytes.{inOrder}
 use Rattle.stored.specs.Node.{requirementSorts, sortOf, aUse, bUse, nodeAt, fieldsRight, operandsRight}
 use Rattle.stored.specs.Tree.{propositionAt, formulaOp, formulaOf, formulaAt}
@@ -20,7 +19,7 @@ use Rattle.stored.specs.Reach.{entryOf}
 use Rattle.stored.specs.Clause.{storedAt, clauseRight, clauseNamed, kindOf, clauseOf}
 use Rattle.stored.specs.Sheet.{headerOf}
 use Rattle.translator.specs.Bound.{isDrawing, drawingAt}
-use Rattle.translator.specs.Emission.{mostNodes, count, formulaIn, Step, HasProposition, Has, Ready, PartsIn}
+use Rattle.translator.specs.Emission.{formulaIn, HasProposition, Has, PartsIn}
 
 -- node r stands for node i of the sheet, its drawings told by other formulas
 pub record Stands (x : ℕ → Node) (i : ℕ) (y : List ℕ) (r : ℕ) : Type 0 where

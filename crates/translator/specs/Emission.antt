@@ -1,6 +1,6 @@
 -- What the emitting functions promise one another. The writer's whole state is in the lent bytes: bytes 6–7 count the nodes so far.
 use Prim.Native.Nat.{ℕ, _+_, _*_, _^_, _≤_, _<_}
-use mathlib.Core.Bool.{Bool, true, cond}
+use mathlib.Core.Bool.{true, cond}
 use mathlib.Core.List.{List}
 use mathlib.Core.Path.{_≡_}
 use lib.Dec.{ltb}
@@ -9,7 +9,6 @@ use Rattle.semantics.specs.Proposition.{Proposition, name, bit}
 use Rattle.semantics.specs.Formula.{Formula, equal, scount}
 use Rattle.semantics.specs.Translation.{anywhere, extended, nothing}
 use Rattle.stored.specs.declared.Node.{Node}
-use Rattle.stored.specs.declared.Header.{Header}
 use Rattle.stored.specs.Bytes.{word}
 use Rattle.stored.specs.Node.{emittedSorts, sortOf, aUse, bUse, fieldsRight, operandRight, operandsRight}
 use Rattle.stored.specs.Tree.{propositionAt, formulaAt}

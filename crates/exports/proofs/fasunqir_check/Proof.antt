@@ -2,25 +2,25 @@
 use mathlib.Core.Path.{sym, _∙_, ap, subst}
 use borrow.Author.Needs.{needs}
 use Rattle.checker.specs.declared.check.Answer.{Answer}
-use Rattle.printed.specs.Line.{Small}
-use Rattle.printed.proofs.Bounds.{answer-small}
+use Rattle.checker.specs.Small.{Small}
+use Rattle.checker.proofs.Bounds.{answer-small}
 use Rattle.exports.specs.Packed.{packed}
 use Rattle.exports.proofs.fasunqir_check.Statement.{statement}
 use Rattle.exports.proofs.fasunqir_check.Tie as tie
 
--- src/lib.rt:39:9
+-- src/lib.rt:52:9
 check-requires : tie.Need-check-requires
 check-requires c κs = search needs
 
--- src/lib.rt:40:5
+-- src/lib.rt:53:5
 packed-answer-requires : tie.Need-packed-answer-requires
 packed-answer-requires c κs = subst (λ (x : Answer). Small x) (sym (c .before .before .check .ensures .0)) (answer-small _ _ _)
 
--- src/lib.rt:34:1
+-- src/lib.rt:47:1
 same-length : tie.Need-same-length
 same-length c = search needs
 
--- src/lib.rt:34:1
+-- src/lib.rt:47:1
 returns : tie.Need-returns
 returns c =
     let checked = c .before .before .before .check .ensures in

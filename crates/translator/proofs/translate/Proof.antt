@@ -4,7 +4,7 @@ use denote.Ref.{now}
 use Rattle.stored.specs.Sheet.{headerOf, sheetAnswer}
 use Rattle.stored.specs.declared.SheetAnswer.{SheetAnswer}
 use Rattle.stored.proofs.Accepted.{Opened, Counts}
-use Rattle.translator.proofs.Translating.{opened-sheet, header-is, sheet-refused, output-refused, run-translated, empty-good, empty-count, empty-signals, empty-names, empty-length, nodes-read, clauses-read, required-parts}
+use Rattle.translator.proofs.Translating.{opened-sheet, header-is, sheet-refused, output-refused, run-translated, empty-good, empty-count, empty-signals, empty-names, nodes-read, clauses-read, required-parts}
 use borrow.Author.Needs.{needs}
 use native.Mathlib.Omega.{arith}
 use Rattle.translator.proofs.translate.Statement.{statement}

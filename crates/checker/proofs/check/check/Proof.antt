@@ -1,6 +1,5 @@
 -- `checker::check::check` meets its contract.
-use mathlib.Core.Path.{_≡_, sym, _∙_}
-use native.Mathlib.Omega.{arith}
+use mathlib.Core.Path.{sym, _∙_}
 use denote.Ref.{now}
 use Rattle.checker.proofs.Checked.{check-sheet, check-trace, check-words, check-given, check-verdict, clauses-sound}
 use borrow.Author.Needs.{needs}

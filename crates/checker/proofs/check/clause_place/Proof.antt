@@ -1,12 +1,7 @@
 -- `checker::check::clause_place` meets its contract.
-use Prim.Native.Nat.{ℕ, suc, _-_, _≤_, _<_}
-use mathlib.Core.Path.{_≡_, refl, sym, ap, subst, _∙_}
+use mathlib.Core.Path.{_≡_, sym, ap, subst, _∙_}
 use native.Mathlib.Omega.{arith}
-use lib.ListN.{length}
-use Rattle.stored.specs.Node.{nodeAt}
 use Rattle.stored.specs.Clause.{storedAt}
-use Rattle.stored.specs.Trace.{cyclesOf}
-use Rattle.stored.proofs.Accepted.{cycles-count}
 use Rattle.checker.specs.declared.task.Task.{Task}
 use Rattle.checker.specs.Task.{taskOf}
 use Rattle.checker.specs.Laid.{Formulas}

@@ -1,8 +1,6 @@
 -- `checker::check::role_place` meets its contract.
-use Prim.Native.Nat.{ℕ, _≤_}
-use mathlib.Core.Path.{_≡_, refl, sym, ap, _∙_}
+use mathlib.Core.Path.{_≡_, sym, ap, _∙_}
 use native.Mathlib.Omega.{arith}
-use lib.ListN.{length}
 use Rattle.stored.specs.Node.{nodeAt}
 use Rattle.stored.specs.Clause.{storedAt}
 use Rattle.stored.specs.Trace.{cyclesOf}

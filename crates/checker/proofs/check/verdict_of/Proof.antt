@@ -1,12 +1,11 @@
 -- `checker::check::verdict_of` meets its contract.
 use Prim.Native.Nat.{ℕ}
-use mathlib.Core.Path.{_≡_, refl, sym, ap, _∙_}
+use mathlib.Core.Path.{ap, _∙_}
 use native.Mathlib.Omega.{arith}
-use lib.ListN.{length, replicate}
+use lib.ListN.{replicate}
 use Rattle.tables.specs.Ready.{Ready}
 use Rattle.tables.proofs.Fills.{reach-long}
 use Rattle.tables.proofs.Moves.{kept-none}
-use Rattle.checker.specs.Laid.{Laid}
 use Rattle.checker.proofs.Laying.{laid-first}
 use borrow.Author.Needs.{needs}
 use Rattle.checker.proofs.check.verdict_of.Statement.{statement}

@@ -1,6 +1,6 @@
 -- `checker::check::verdict_over` meets its contract.
 use Prim.Native.Nat.{ℕ}
-use mathlib.Core.Path.{_≡_, sym, ap, subst, _∙_}
+use mathlib.Core.Path.{ap, subst, _∙_}
 use native.Mathlib.Omega.{arith}
 use Rattle.semantics.specs.Clause.{Clause, assumption, commitment}
 use Rattle.stored.specs.Node.{nodeAt}

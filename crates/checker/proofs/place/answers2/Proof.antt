@@ -1,6 +1,6 @@
 -- `checker::place::answers2` meets its contract. The rows have gained the answers of the cycles passed.
 use Prim.Native.Nat.{ℕ, _-_, _≤_, _<_}
-use mathlib.Core.Path.{_≡_, refl, sym, ap, _∙_}
+use mathlib.Core.Path.{_≡_, refl, ap, _∙_}
 use native.Mathlib.Omega.{arith}
 use lib.ListN.{length}
 use Rattle.semantics.specs.Cycles.{someFrom}
@@ -8,7 +8,7 @@ use Rattle.tables.specs.Table.{standing}
 use mathlib.Core.Bool.{Bool}
 use Rattle.checker.specs.Gather.{Adds}
 use Rattle.checker.specs.Loops.{lowOf, highOf}
-use Rattle.checker.specs.Laid.{Laid, replyOn, over2, over1, over0}
+use Rattle.checker.specs.Laid.{Laid, replyOn, over2}
 use Rattle.checker.proofs.Loops.{moved2, low-high, high-most, loop-over, adds-start, adds-turn, adds-ext}
 use borrow.Author.Needs.{needs}
 use Rattle.checker.proofs.place.answers2.Statement.{statement}

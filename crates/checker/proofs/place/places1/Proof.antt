@@ -1,14 +1,14 @@
 -- `checker::place::places1` meets its contract. The best place so far is the least over the cycles passed.
 use Prim.Native.Nat.{ℕ, _-_, _≤_, _<_}
 use mathlib.Core.Bool.{Bool}
-use mathlib.Core.Path.{_≡_, refl, sym, ap, _∙_}
+use mathlib.Core.Path.{_≡_, refl, ap, _∙_}
 use native.Mathlib.Omega.{arith}
 use lib.ListN.{length}
 use Rattle.semantics.specs.Cycles.{someFrom}
 use Rattle.tables.specs.Table.{standing}
 use Rattle.checker.specs.Places.{IsLeast}
 use Rattle.checker.specs.Loops.{lowOf, highOf}
-use Rattle.checker.specs.Laid.{Laid, missedOn, over2, over1, over0}
+use Rattle.checker.specs.Laid.{Laid, missedOn, over2, over1}
 use Rattle.checker.proofs.Loops.{moved1, low-high, high-most, loop-over, least-start, least-turn}
 use Rattle.checker.proofs.Places.{least-ext}
 use borrow.Author.Needs.{needs}

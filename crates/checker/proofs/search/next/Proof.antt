@@ -1,5 +1,5 @@
 -- `checker::search::next` meets its contract.
-use mathlib.Core.Path.{ap, subst, sym}
+use mathlib.Core.Path.{subst, sym}
 use Prim.Native.Nat.{ℕ, _-_, _^_}
 use native.Mathlib.Omega.{arith}
 use lib.Bits.{bitAnd}

@@ -1,7 +1,7 @@
 -- `checker::search::search` meets its contract. Each loop has found nothing at the places it has passed.
-use Prim.Native.Nat.{ℕ, zero, suc, _-_, _≤_, _<_}
-use mathlib.Core.Bool.{true, false}
-use mathlib.Core.Path.{_≡_, refl, sym, ap, _∙_}
+use Prim.Native.Nat.{_-_, _≤_, _<_}
+use mathlib.Core.Bool.{true}
+use mathlib.Core.Path.{_≡_, refl, sym, _∙_}
 use native.Mathlib.Omega.{arith}
 use Rattle.semantics.specs.Proposition.{bit}
 use Rattle.checker.specs.Rows.{kindOf}

@@ -1,14 +1,9 @@
 -- `checker::search::starts` meets its contract.
-use mathlib.Core.Path.{_≡_, ap, ap₂, sym, _∙_}
-use mathlib.Core.Bool.{not}
-use Prim.Native.Nat.{ℕ, suc, _-_, _^_}
+use mathlib.Core.Path.{ap, ap₂, _∙_}
+use Prim.Native.Nat.{ℕ, _-_, _^_}
 use native.Mathlib.Omega.{arith}
 use lib.Bits.{bitAnd}
-use lib.Dec.{eqb}
-use Rattle.semantics.specs.Proposition.{bit}
-use Rattle.rows.specs.Row.{word}
-use Rattle.checker.specs.declared.search.Kind.{Kind}
-use Rattle.checker.specs.Rows.{kindOf, starting}
+use Rattle.checker.specs.Rows.{starting}
 use Rattle.checker.proofs.Found.{pref-starts, pref-none, init-starts, init-none, first-starts, implies-starts}
 use borrow.Author.Needs.{needs}
 use Rattle.checker.proofs.search.starts.Statement.{statement}

@@ -1,17 +1,9 @@
 -- `checker::table::copy_rows` meets its contract.
-use mathlib.Core.Path.{_≡_, refl, sym, _∙_, ap, ap₂}
+use mathlib.Core.Path.{_≡_, refl, _∙_}
 use native.Mathlib.Omega.{arith}
-use Prim.Native.Nat.{ℕ, zero, suc, _+_, _-_, _*_, _^_, _≤_, _<_}
+use Prim.Native.Nat.{ℕ, _-_, _≤_, _<_}
 use borrow.Author.Needs.{needs}
-use lib.ListN.{length, getD, set, length-set}
-use lib.Seq.{getD-set-same, getD-set-other, ext-getD}
-use mathlib.Core.Logic.{inl, inr}
-use borrow.Author.Tests.{eqb-true, eqb-false}
-use lib.Dec.{eqb}
-use mathlib.Core.List.{List}
-use Rattle.semantics.proofs.Tests.{test}
-use Rattle.stored.specs.Bytes.{inOrder}
-use Rattle.stored.proofs.Rules.{length-inOrder, getD-inOrder}
+use lib.ListN.{length, getD, length-set}
 use Rattle.tables.specs.Table.{rowAt}
 use Rattle.checker.proofs.Copies.{copied-more, copied-all}
 use Rattle.checker.proofs.table.copy_rows.Statement.{statement}

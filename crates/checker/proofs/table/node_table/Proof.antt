@@ -1,17 +1,15 @@
 -- `checker::table::node_table` meets its contract.
-use mathlib.Core.Path.{_≡_, refl, sym, _∙_, ap, ap₂}
+use mathlib.Core.Path.{refl, sym, _∙_, ap}
 use native.Mathlib.Omega.{arith}
-use Prim.Native.Nat.{ℕ, zero, suc, _+_, _-_, _*_, _^_, _≤_, _<_}
+use Prim.Native.Nat.{ℕ}
 use borrow.Author.Needs.{needs}
 use mathlib.Core.List.{List}
 use borrow.Author.Tests.{not-true, not-false, eqb-true}
-use lib.Dec.{eqb}
 use Rattle.semantics.specs.Placement.{Placement}
 use Rattle.stored.specs.Node.{nodeAt, requirementSorts, isFormulaNode}
 use Rattle.stored.specs.Trace.{cyclesOf}
 use Rattle.stored.proofs.Tree.{sort-below}
 use Rattle.tables.proofs.Fills.{given-cycles}
-use Rattle.checker.specs.declared.table.TableAnswer.{TableAnswer}
 use Rattle.checker.specs.Table.{tableOf, placementOf, nodeRefusal}
 use Rattle.checker.proofs.Refusals.{answers-number, answers-rows, node-16, node-17, node-right, names-inside, placed-as}
 use Rattle.checker.proofs.table.node_table.Statement.{statement}

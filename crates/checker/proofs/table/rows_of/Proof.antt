@@ -1,7 +1,7 @@
 -- `checker::table::rows_of` meets its contract.
-use mathlib.Core.Path.{_≡_, refl, sym, _∙_, ap, ap₂}
+use mathlib.Core.Path.{_∙_, ap}
 use native.Mathlib.Omega.{arith}
-use Prim.Native.Nat.{ℕ, zero, suc, _+_, _-_, _*_, _^_, _≤_, _<_}
+use Prim.Native.Nat.{ℕ}
 use borrow.Author.Needs.{needs}
 use lib.ListN.{length, replicate}
 use Rattle.semantics.specs.Formula.{holds}
@@ -10,7 +10,7 @@ use Rattle.rows.specs.Row.{row}
 use Rattle.stored.specs.Node.{nodeAt}
 use Rattle.stored.specs.Trace.{cyclesOf}
 use Rattle.stored.specs.Tree.{formulaAt}
-use Rattle.tables.specs.Table.{standing, rowAt}
+use Rattle.tables.specs.Table.{standing}
 use Rattle.tables.specs.Ready.{Ready}
 use Rattle.tables.proofs.Fills.{reach-long}
 use Rattle.tables.proofs.Moves.{kept-none}

@@ -1,9 +1,9 @@
 -- `checker::task::task_of` meets its contract.
-use mathlib.Core.Path.{_≡_, ap, ap₂, sym, _∙_}
+use mathlib.Core.Path.{ap, ap₂, _∙_}
 use mathlib.Core.Bool.{cond}
 use Prim.Native.Nat.{ℕ, _-_, _^_}
-use lib.Bits.{bitAnd, bitOr}
-use lib.Dec.{eqb, ltb}
+use lib.Bits.{bitAnd}
+use lib.Dec.{eqb}
 use Rattle.checker.specs.Task.{taskOf}
 use Rattle.checker.proofs.Tasks.{same-task}
 use borrow.Author.Needs.{needs}

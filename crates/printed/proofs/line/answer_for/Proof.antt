@@ -4,9 +4,9 @@ use mathlib.Core.Path.{sym, _∙_, subst}
 use lib.ListN.{length, take, drop}
 use denote.Ref.{now}
 use Rattle.checker.specs.declared.check.Answer.{Answer}
-use Rattle.printed.specs.Line.{Small}
-use Rattle.printed.proofs.Answers.{first-part, last-part}
-use Rattle.printed.proofs.Bounds.{answer-small, check-is}
+use Rattle.checker.specs.Small.{Small}
+use Rattle.checker.proofs.Bounds.{answer-small}
+use Rattle.printed.proofs.Answers.{first-part, last-part, check-is}
 use borrow.Author.Needs.{needs}
 use Rattle.printed.proofs.line.answer_for.Statement.{statement}
 use Rattle.printed.proofs.line.answer_for.Tie as tie

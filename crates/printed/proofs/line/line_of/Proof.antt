@@ -3,7 +3,8 @@ use mathlib.Core.Path.{sym, _∙_, ap, subst}
 use native.Mathlib.Omega.{arith}
 use Rattle.checker.specs.declared.check.Answer.{Answer}
 use Rattle.printed.specs.Text.{refusedText}
-use Rattle.printed.specs.Line.{refusedWord, excusedWord, holdsWord, lineWith, lineText, lineOf, Small}
+use Rattle.printed.specs.Line.{refusedWord, excusedWord, holdsWord, lineWith, lineText, lineOf}
+use Rattle.checker.specs.Small.{Small}
 use Rattle.printed.proofs.Lines.{line-size}
 use borrow.Author.Needs.{needs}
 use Rattle.printed.proofs.line.line_of.Statement.{statement}

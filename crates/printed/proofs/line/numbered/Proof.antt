@@ -1,7 +1,6 @@
 -- `printed::line::numbered` meets its contract.
 use native.Mathlib.Omega.{arith}
 use Rattle.printed.proofs.Lines.{grown-then}
-use borrow.Author.Needs.{needs}
 use Rattle.printed.proofs.line.numbered.Statement.{statement}
 use Rattle.printed.proofs.line.numbered.Tie as tie
 

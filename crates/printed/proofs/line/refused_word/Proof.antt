@@ -2,7 +2,6 @@
 use mathlib.Core.Path.{refl}
 use Rattle.stored.specs.Bytes.{inOrder}
 use Rattle.printed.specs.Line.{lineOf}
-use borrow.Author.Needs.{needs}
 use Rattle.printed.proofs.line.refused_word.Statement.{statement}
 use Rattle.printed.proofs.line.refused_word.Tie as tie
 

@@ -6,7 +6,8 @@ use mathlib.Core.Path.{subst}
 use lib.ListN.{length, take, drop}
 use denote.Ref.{now}
 use Rattle.checker.specs.declared.table.TableAnswer.{TableAnswer}
-use Rattle.printed.proofs.Answers.{first-part, last-part, answer-is, refusal-small}
+use Rattle.checker.proofs.Bounds.{table-small}
+use Rattle.printed.proofs.Answers.{first-part, last-part, answer-is}
 use Rattle.printed.proofs.page.answer_to.Statement.{statement}
 use Rattle.printed.proofs.page.answer_to.Tie as tie
 
@@ -75,7 +76,7 @@ returns c =
       e
           ∙ answer-is input body (take (end - 0) (drop 0 body)) (take (length body - end) (drop end body)) _ _ _ _ end words (last-part input (from .result) ∙ from .ensures .0) (c .before .before .before .before .before .before .split .ensures .0) (first-part body end) (last-part body end)
           (c .before .before .before .before .before .before .before .before .before .before .before .before .word-at .ensures .0) (c .before .before .before .before .before .before .before .before .before .before .before .byte-at .ensures .0) (c .before .before .before .before .before .before .before .before .before .before .byte-at2 .ensures .0) (c .before .before .before .before .before .before .before .before .before .byte-at3 .ensures .0) (c .before .before .before .lent-words .ensures),
-      subst (λ (r : TableAnswer). r .refused < 100) (sym e) (refusal-small _ _ _ _ _ _ _),
+      subst (λ (r : TableAnswer). r .refused < 100) (sym e) (table-small _ _ _ _ _ _ _),
     )
 
 pub answer-to-spec : {M : Type 1} → statement M

@@ -1,6 +1,6 @@
 use Rattle.stored.proofs.bytes.byte.Statement.{statement}
 use Rattle.stored.proofs.bytes.byte.Tie as tie
-use mathlib.Core.Path.{_≡_, refl, sym, _∙_, ap}
+use mathlib.Core.Path.{refl}
 use native.Mathlib.Omega.{arith}
 
 shared-slice-read-result : tie.Need-shared-slice-read-result

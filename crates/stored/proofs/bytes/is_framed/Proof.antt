@@ -1,8 +1,7 @@
 use native.Mathlib.Omega.{arith}
 use Rattle.stored.proofs.bytes.is_framed.Statement.{statement}
 use Rattle.stored.proofs.bytes.is_framed.Tie as tie
-use mathlib.Core.Path.{_≡_, refl, sym, _∙_, ap}
-use borrow.Author.Tests.{eq-eqb, ne-eqb, lt-ltb, le-ltb, le-leb, lt-leb}
+use borrow.Author.Tests.{le-leb, lt-leb}
 use Rattle.stored.specs.Bytes.{framedFrom}
 
 returns : tie.Need-returns

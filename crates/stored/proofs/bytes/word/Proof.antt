@@ -1,6 +1,5 @@
 use Rattle.stored.proofs.bytes.word.Statement.{statement}
 use Rattle.stored.proofs.bytes.word.Tie as tie
-use mathlib.Core.Path.{_≡_, refl, sym, _∙_, ap}
 use native.Mathlib.Omega.{arith}
 use Rattle.stored.specs.Bytes.{word}
 

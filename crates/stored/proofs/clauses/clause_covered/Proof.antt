@@ -1,7 +1,6 @@
 use native.Mathlib.Omega.{arith}
 use Rattle.stored.proofs.clauses.clause_covered.Statement.{statement}
 use Rattle.stored.proofs.clauses.clause_covered.Tie as tie
-use mathlib.Core.Path.{_≡_, refl, sym, _∙_, ap}
 use Rattle.stored.specs.Clause.{clauseCovered}
 
 parts-used-requires : tie.Need-parts-used-requires

@@ -1,7 +1,6 @@
 use native.Mathlib.Omega.{arith}
 use Rattle.stored.proofs.clauses.clause_ok.Statement.{statement}
 use Rattle.stored.proofs.clauses.clause_ok.Tie as tie
-use mathlib.Core.Path.{_≡_, refl, sym, _∙_, ap}
 use Rattle.stored.specs.Clause.{clauseRight}
 
 parts-used-requires : tie.Need-parts-used-requires

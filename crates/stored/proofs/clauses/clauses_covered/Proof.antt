@@ -1,7 +1,6 @@
 use native.Mathlib.Omega.{arith}
 use Rattle.stored.proofs.clauses.clauses_covered.Statement.{statement}
 use Rattle.stored.proofs.clauses.clauses_covered.Tie as tie
-use mathlib.Core.Path.{_≡_, refl, sym, _∙_, ap}
 
 reach-table-requires : tie.Need-reach-table-requires
 reach-table-requires c κs = omega arith

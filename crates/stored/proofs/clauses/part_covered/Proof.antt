@@ -1,7 +1,6 @@
 use native.Mathlib.Omega.{arith}
 use Rattle.stored.proofs.clauses.part_covered.Statement.{statement}
 use Rattle.stored.proofs.clauses.part_covered.Tie as tie
-use mathlib.Core.Path.{_≡_, refl, sym, _∙_, ap}
 use Rattle.stored.proofs.Rules.{shift-one}
 use Rattle.stored.specs.Reach.{joint}
 use Rattle.stored.specs.Clause.{partCovered}

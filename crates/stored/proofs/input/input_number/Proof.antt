@@ -1,7 +1,6 @@
 use borrow.Author.Needs.{needs}
 use Rattle.stored.proofs.input.input_number.Statement.{statement}
 use Rattle.stored.proofs.input.input_number.Tie as tie
-use mathlib.Core.Path.{_≡_, refl, sym, _∙_, ap}
 use Rattle.stored.specs.Input.{inputNumber}
 
 enum-told : tie.Need-enum-told

@@ -1,7 +1,6 @@
 use borrow.Author.Needs.{needs}
 use Rattle.stored.proofs.input.read_input.Statement.{statement}
 use Rattle.stored.proofs.input.read_input.Tie as tie
-use mathlib.Core.Path.{_≡_, refl, sym, _∙_, ap}
 use Rattle.stored.proofs.Both.{sheet-refused, then-refused, both-accepted}
 
 read-sheet-requires : tie.Need-read-sheet-requires

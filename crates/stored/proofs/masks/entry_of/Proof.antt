@@ -1,8 +1,8 @@
 use native.Mathlib.Omega.{arith}
 use Rattle.stored.proofs.masks.entry_of.Statement.{statement}
 use Rattle.stored.proofs.masks.entry_of.Tie as tie
-use mathlib.Core.Path.{_≡_, refl, sym, _∙_, ap}
-use lib.ListN.{length, getD, List·getD-eq-default}
+use mathlib.Core.Path.{refl, sym}
+use lib.ListN.{List·getD-eq-default}
 use denote.Ref.{now}
 use Rattle.stored.specs.Reach.{entryOf}
 

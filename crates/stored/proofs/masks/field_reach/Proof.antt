@@ -1,8 +1,7 @@
 use native.Mathlib.Omega.{arith}
 use Rattle.stored.proofs.masks.field_reach.Statement.{statement}
 use Rattle.stored.proofs.masks.field_reach.Tie as tie
-use mathlib.Core.Path.{_≡_, refl, sym, _∙_, ap}
-use borrow.Author.Tests.{eq-eqb, ne-eqb, lt-ltb, le-ltb, le-leb, lt-leb}
+use borrow.Author.Tests.{eq-eqb, ne-eqb}
 use Rattle.stored.specs.Reach.{joint, fieldReach}
 
 name-mask-requires : tie.Need-name-mask-requires

@@ -1,9 +1,9 @@
 use native.Mathlib.Omega.{arith}
 use Rattle.stored.proofs.masks.name_mask.Statement.{statement}
 use Rattle.stored.proofs.masks.name_mask.Tie as tie
-use mathlib.Core.Path.{_≡_, refl, sym, _∙_, ap}
-use lib.ListN.{length, getD, List·getD-eq-default}
-use mathlib.Core.List.{List, [], _∷_}
+use mathlib.Core.Path.{refl, sym}
+use lib.ListN.{List·getD-eq-default}
+use mathlib.Core.List.{[], _∷_}
 use Rattle.stored.specs.Reach.{nameMask}
 
 mul-result : tie.Need-mul-result

@@ -1,7 +1,6 @@
 use native.Mathlib.Omega.{arith}
 use Rattle.stored.proofs.masks.node_reach.Statement.{statement}
 use Rattle.stored.proofs.masks.node_reach.Tie as tie
-use mathlib.Core.Path.{_≡_, refl, sym, _∙_, ap}
 use Rattle.stored.specs.Reach.{joint, nodeReach}
 
 q-use-requires : tie.Need-q-use-requires

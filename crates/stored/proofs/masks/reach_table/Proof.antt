@@ -1,9 +1,9 @@
 use Rattle.stored.proofs.masks.reach_table.Statement.{statement}
 use Rattle.stored.proofs.masks.reach_table.Tie as tie
-use mathlib.Core.Path.{_≡_, refl, sym, _∙_, ap}
+use mathlib.Core.Path.{_≡_, refl, _∙_, ap}
 use native.Mathlib.Omega.{arith}
-use Prim.Native.Nat.{ℕ, _+_, _-_, _≤_}
-use lib.ListN.{length, getD, set, length-set}
+use Prim.Native.Nat.{ℕ, _-_, _≤_}
+use lib.ListN.{length, getD, length-set}
 use Rattle.stored.proofs.Reach.{table-start, table-next, table-done}
 use Rattle.stored.specs.Node.{nodeAt}
 use Rattle.stored.specs.Tree.{earlier}

@@ -1,8 +1,8 @@
 use native.Mathlib.Omega.{arith}
 use Rattle.stored.proofs.nodes.a_use.Statement.{statement}
 use Rattle.stored.proofs.nodes.a_use.Tie as tie
-use mathlib.Core.Path.{_≡_, refl, sym, _∙_, ap}
-use lib.ListN.{length, getD, List·getD-eq-default}
+use mathlib.Core.Path.{refl, sym}
+use lib.ListN.{List·getD-eq-default}
 use Rattle.stored.specs.Node.{aUse, aUses}
 
 mul-result : tie.Need-mul-result

@@ -1,7 +1,6 @@
 use native.Mathlib.Omega.{arith}
 use Rattle.stored.proofs.nodes.fields_ok.Statement.{statement}
 use Rattle.stored.proofs.nodes.fields_ok.Tie as tie
-use mathlib.Core.Path.{_≡_, refl, sym, _∙_, ap}
 use Rattle.stored.specs.Node.{fieldsRight}
 
 sort-of-requires : tie.Need-sort-of-requires

@@ -1,7 +1,6 @@
 use native.Mathlib.Omega.{arith}
 use Rattle.stored.proofs.nodes.is_formula_node.Statement.{statement}
 use Rattle.stored.proofs.nodes.is_formula_node.Tie as tie
-use mathlib.Core.Path.{_≡_, refl, sym, _∙_, ap}
 use Rattle.stored.specs.Node.{isFormulaNode}
 
 sort-below-requires : tie.Need-sort-below-requires

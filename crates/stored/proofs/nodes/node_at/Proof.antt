@@ -1,7 +1,6 @@
 use native.Mathlib.Omega.{arith}
 use Rattle.stored.proofs.nodes.node_at.Statement.{statement}
 use Rattle.stored.proofs.nodes.node_at.Tie as tie
-use mathlib.Core.Path.{_≡_, refl, sym, _∙_, ap}
 use Rattle.stored.specs.Node.{nodeAt}
 
 mul-at : tie.Need-mul-at

@@ -1,8 +1,8 @@
 use Rattle.stored.proofs.nodes.operands_ok.Statement.{statement}
 use Rattle.stored.proofs.nodes.operands_ok.Tie as tie
-use mathlib.Core.Path.{_≡_, refl, sym, _∙_, ap}
+use mathlib.Core.Path.{_≡_, refl}
 use native.Mathlib.Omega.{arith}
-use Prim.Native.Nat.{ℕ, _+_, _-_, _*_, _^_, _≤_, _<_}
+use Prim.Native.Nat.{_-_, _≤_}
 use Rattle.stored.specs.Bytes.{everyBelow}
 use Rattle.stored.proofs.Rules.{every-next, every-done}
 use Rattle.stored.specs.Node.{nodeAt, requirementSorts, operandsRight}

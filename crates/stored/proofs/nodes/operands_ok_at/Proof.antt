@@ -1,7 +1,6 @@
 use native.Mathlib.Omega.{arith}
 use Rattle.stored.proofs.nodes.operands_ok_at.Statement.{statement}
 use Rattle.stored.proofs.nodes.operands_ok_at.Tie as tie
-use mathlib.Core.Path.{_≡_, refl, sym, _∙_, ap}
 use Rattle.stored.specs.Node.{operandsRight}
 
 node-at-requires : tie.Need-node-at-requires

@@ -1,8 +1,7 @@
 use native.Mathlib.Omega.{arith}
 use Rattle.stored.proofs.nodes.sort_below.Statement.{statement}
 use Rattle.stored.proofs.nodes.sort_below.Tie as tie
-use mathlib.Core.Path.{_≡_, refl, sym, _∙_, ap}
-use borrow.Author.Tests.{eq-eqb, ne-eqb, lt-ltb, le-ltb, le-leb, lt-leb}
+use borrow.Author.Tests.{lt-ltb, le-ltb}
 use Rattle.stored.specs.Node.{nodeAt, sortBelow}
 
 mul-byte : tie.Need-mul-byte

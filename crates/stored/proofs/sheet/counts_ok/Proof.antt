@@ -1,6 +1,6 @@
 use Rattle.stored.proofs.sheet.counts_ok.Statement.{statement}
 use Rattle.stored.proofs.sheet.counts_ok.Tie as tie
-use mathlib.Core.Path.{_≡_, refl, sym, _∙_, ap}
+use mathlib.Core.Path.{refl}
 use Rattle.stored.specs.Sheet.{counted}
 
 returns : tie.Need-returns

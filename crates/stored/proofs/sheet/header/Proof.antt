@@ -1,7 +1,6 @@
 use native.Mathlib.Omega.{arith}
 use Rattle.stored.proofs.sheet.header.Statement.{statement}
 use Rattle.stored.proofs.sheet.header.Tie as tie
-use mathlib.Core.Path.{_≡_, refl, sym, _∙_, ap}
 use Rattle.stored.specs.Sheet.{headerOf}
 
 byte-requires : tie.Need-byte-requires

@@ -1,7 +1,6 @@
 use borrow.Author.Needs.{needs}
 use Rattle.stored.proofs.sheet.node_part.Statement.{statement}
 use Rattle.stored.proofs.sheet.node_part.Tie as tie
-use mathlib.Core.Path.{_≡_, refl, sym, _∙_, ap}
 use native.Mathlib.Omega.{arith}
 use Rattle.stored.proofs.Accepted.{answer-accepted, sizes}
 use Rattle.stored.specs.Sheet.{clausesStart, nodePart}

@@ -1,15 +1,13 @@
 use borrow.Author.Needs.{needs}
 use Rattle.stored.proofs.sheet.read_sheet.Statement.{statement}
 use Rattle.stored.proofs.sheet.read_sheet.Tie as tie
-use mathlib.Core.Path.{_≡_, refl, sym, _∙_, ap}
+use mathlib.Core.Path.{_≡_, sym, _∙_, ap}
 use native.Mathlib.Omega.{arith}
-use mathlib.Core.List.{List}
-use mathlib.Core.Bool.{Bool, true, false}
-use Prim.Native.Nat.{ℕ, _+_, _*_}
+use mathlib.Core.Bool.{true}
 use borrow.Author.Tests.{eq-eqb, ne-eqb, not-true, not-false}
 use denote.Ref.{now}
 use Rattle.stored.specs.declared.SheetAnswer.the-variants.{Accepted}
-use Rattle.stored.specs.Sheet.{headerOf, clausesStart, sheetEnd, nodePart, clausePart, nodesOf, storedOf, framed, versioned, ofKindOne, counted, sized, nodesRight, operandsFound, clausesRight, clausesNamed, sheetAnswer}
+use Rattle.stored.specs.Sheet.{headerOf, clausesStart, sheetEnd, nodePart, clausePart, nodesOf, storedOf, framed, versioned, ofKindOne, counted, sized, nodesRight, operandsFound, clausesRight, clausesNamed}
 use Rattle.stored.proofs.Accepted.{Counts, counts}
 use Rattle.stored.proofs.Answer.{Framed, Sized, framed-long, covered-named, refused1, refused2, refused3, refused4, refused5, refused6, refused7, refused8, refused9, accepted}
 

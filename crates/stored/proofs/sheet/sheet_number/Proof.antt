@@ -1,7 +1,6 @@
 use native.Mathlib.Omega.{arith}
 use Rattle.stored.proofs.sheet.sheet_number.Statement.{statement}
 use Rattle.stored.proofs.sheet.sheet_number.Tie as tie
-use mathlib.Core.Path.{_≡_, refl, sym, _∙_, ap}
 use Rattle.stored.specs.Sheet.{sheetNumber}
 
 enum-told : tie.Need-enum-told

@@ -1,7 +1,6 @@
 use native.Mathlib.Omega.{arith}
 use Rattle.stored.proofs.trace.cycle_at.Statement.{statement}
 use Rattle.stored.proofs.trace.cycle_at.Tie as tie
-use mathlib.Core.Path.{_≡_, refl, sym, _∙_, ap}
 use Rattle.stored.specs.Trace.{cycleAt}
 
 mul-word : tie.Need-mul-word

@@ -1,9 +1,9 @@
 use Rattle.stored.proofs.trace.is_below.Statement.{statement}
 use Rattle.stored.proofs.trace.is_below.Tie as tie
-use mathlib.Core.Path.{_≡_, refl, sym, _∙_, ap}
+use mathlib.Core.Path.{sym}
 use native.Mathlib.Omega.{arith}
-use borrow.Author.Tests.{eq-eqb, ne-eqb, lt-ltb, le-ltb, le-leb, lt-leb}
-use Prim.Native.Nat.{ℕ, _+_, _-_, _*_, _^_, _≤_, _<_}
+use borrow.Author.Tests.{lt-ltb}
+use Prim.Native.Nat.{_^_, _≤_}
 use native.Mathlib.Nat.{pow-le-pow-right}
 use Rattle.stored.proofs.Rules.{shift-one}
 

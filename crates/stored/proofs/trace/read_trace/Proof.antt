@@ -1,10 +1,9 @@
 use Rattle.stored.proofs.trace.read_trace.Statement.{statement}
 use Rattle.stored.proofs.trace.read_trace.Tie as tie
-use mathlib.Core.Path.{_≡_, refl, sym, _∙_, ap}
+use mathlib.Core.Path.{_≡_, sym, _∙_}
 use native.Mathlib.Omega.{arith}
-use Prim.Native.Nat.{ℕ, _+_, _*_}
 use borrow.Author.Tests.{eq-eqb, ne-eqb, le-leb, lt-leb, not-true, not-false}
-use mathlib.Core.Bool.{Bool, true, false}
+use mathlib.Core.Bool.{true}
 use denote.Ref.{now}
 use Rattle.stored.specs.Trace.{cycleCount, traceFramed, traceVersioned, sameSignals, cyclesRight}
 use Rattle.stored.proofs.Answer.{TraceHeaded, trace-framed-long, refused10, refused11, refused12, refused13, trace-accepted}

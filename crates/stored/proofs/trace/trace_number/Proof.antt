@@ -1,7 +1,6 @@
 use native.Mathlib.Omega.{arith}
 use Rattle.stored.proofs.trace.trace_number.Statement.{statement}
 use Rattle.stored.proofs.trace.trace_number.Tie as tie
-use mathlib.Core.Path.{_≡_, refl, sym, _∙_, ap}
 use Rattle.stored.specs.Trace.{traceNumber}
 
 enum-told : tie.Need-enum-told

@@ -1,7 +1,6 @@
 use borrow.Author.Needs.{needs}
 use Rattle.stored.proofs.writer.count.Statement.{statement}
 use Rattle.stored.proofs.writer.count.Tie as tie
-use mathlib.Core.Path.{_≡_, refl, sym, _∙_, ap}
 use Rattle.stored.specs.Sheet.{headerOf}
 
 word-requires : tie.Need-word-requires

@@ -3,7 +3,6 @@ use native.Mathlib.Omega.{arith}
 use lib.ListN.{length-set}
 use Rattle.stored.proofs.writer.put_header.Statement.{statement}
 use Rattle.stored.proofs.writer.put_header.Tie as tie
-use mathlib.Core.Path.{_≡_, refl, sym, _∙_, ap}
 use Rattle.stored.specs.Written.{emittedHeader, putHeader}
 
 mul-rest : tie.Need-mul-rest

@@ -3,7 +3,6 @@ use native.Mathlib.Omega.{arith}
 use lib.ListN.{length-set}
 use Rattle.stored.proofs.writer.put_node.Statement.{statement}
 use Rattle.stored.proofs.writer.put_node.Tie as tie
-use mathlib.Core.Path.{_≡_, refl, sym, _∙_, ap}
 use native.Mathlib.Numerals.{towards-suc}
 use Rattle.stored.specs.Written.{nodeBytes, putNode}
 

@@ -1,7 +1,6 @@
 -- `tables::column::name` meets its contract.
-use mathlib.Core.Path.{_≡_, refl, sym, _∙_, ap, ap₂}
+use mathlib.Core.Path.{_≡_, _∙_}
 use native.Mathlib.Omega.{arith}
-use Prim.Native.Nat.{ℕ, zero, suc, _+_, _-_, _*_, _^_, _≤_, _<_}
 use borrow.Author.Needs.{needs}
 use Rattle.tables.proofs.Columns.{name-is, standing0, standing1, standing2}
 use Rattle.tables.proofs.column.name.Statement.{statement}

@@ -1,10 +1,9 @@
 -- `tables::column::proposition` meets its contract.
-use mathlib.Core.Path.{_≡_, refl, sym, _∙_, ap, ap₂}
+use mathlib.Core.Path.{_≡_, refl, ap, ap₂}
 use native.Mathlib.Omega.{arith}
-use Prim.Native.Nat.{ℕ, zero, suc, _+_, _-_, _*_, _^_, _≤_, _<_}
+use Prim.Native.Nat.{ℕ, _-_, _^_}
 use borrow.Author.Needs.{needs}
 use lib.Bits.{bitAnd, bitOr}
-use Rattle.rows.specs.Row.{word}
 use Rattle.stored.specs.Node.{aUse, bUse}
 use Rattle.stored.specs.Tree.{propositionOp}
 use Rattle.tables.specs.Step.{columnOf}

@@ -1,11 +1,8 @@
 -- `tables::column::second` meets its contract.
-use mathlib.Core.Path.{_≡_, refl, sym, _∙_, ap, ap₂}
+use mathlib.Core.Path.{sym, _∙_}
 use native.Mathlib.Omega.{arith}
-use Prim.Native.Nat.{ℕ, zero, suc, _+_, _-_, _*_, _^_, _≤_, _<_}
 use borrow.Author.Needs.{needs}
-use mathlib.Core.Bool.{cond, Bool}
 use borrow.Author.Tests.{eq-eqb, ne-eqb}
-use Rattle.stored.specs.Node.{qUse}
 use Rattle.tables.specs.Step.{secondColumn}
 use Rattle.tables.proofs.column.second.Statement.{statement}
 use Rattle.tables.proofs.column.second.Tie as tie

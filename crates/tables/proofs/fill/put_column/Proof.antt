@@ -1,9 +1,7 @@
 -- `tables::fill::put_column` meets its contract.
-use mathlib.Core.Path.{_≡_, refl, sym, _∙_, ap, ap₂}
+use mathlib.Core.Path.{refl, _∙_, ap}
 use native.Mathlib.Omega.{arith}
-use Prim.Native.Nat.{ℕ, zero, suc, _+_, _-_, _*_, _^_, _≤_, _<_}
-use borrow.Author.Needs.{needs}
-use lib.ListN.{length, set, length-set}
+use lib.ListN.{length-set}
 use Rattle.stored.specs.declared.Node.{Node}
 use Rattle.stored.specs.Tree.{propositionOp}
 use Rattle.tables.specs.Table.{standing}

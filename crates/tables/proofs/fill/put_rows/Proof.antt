@@ -1,9 +1,8 @@
 -- `tables::fill::put_rows` meets its contract.
-use mathlib.Core.Path.{_≡_, refl, sym, _∙_, ap, ap₂}
+use mathlib.Core.Path.{_≡_, refl, sym, _∙_, ap}
 use native.Mathlib.Omega.{arith}
-use Prim.Native.Nat.{ℕ, zero, suc, _+_, _-_, _*_, _^_, _≤_, _<_}
-use borrow.Author.Needs.{needs}
-use lib.ListN.{length, set, length-set}
+use Prim.Native.Nat.{_-_, _≤_}
+use lib.ListN.{length, length-set}
 use Rattle.stored.specs.declared.Node.{Node}
 use Rattle.stored.specs.Node.{nodeAt}
 use Rattle.stored.specs.Trace.{cyclesOf}
@@ -53,8 +52,10 @@ line-requires c κs =
     let a = c .before .before .before .before .before .before .before .before .before .before .args in
     let g = c .before .before .before .before .before .before .before .before .before .before .pre .0 in
     let s = c .before .before .before .before .before .before .before .before .before .before .pre .1 .1 .1 in
-    let t = formula-read g (a .i) (c .before .before .before .before .before .before .node-at .result) (omega arith) (c .before .before .before .before .before .before .node-at .ensures) s in
-    (t .0, (omega (arith, g, t .1, c .before .before .loop .inv .1)))
+    let q = c .before .before .before .before .before .before .before .before .before .before .pre .1 .1 .2 in
+    let node = c .before .before .before .before .before .before .node-at .ensures in
+    let t = formula-read g (a .i) (c .before .before .before .before .before .before .node-at .result) (omega arith) node s in
+    (t .0, ((omega (arith, t .1)), (omega (arith, t .1)), (λ e. q (ap (λ (x : Node). x .op) (sym node) ∙ e)), (omega (arith, g)), (omega (arith, g, c .before .before .loop .inv .1))))
 
 mul-words : tie.Need-mul-words Inv-loop μ-loop
 mul-words c = omega (arith, c .before .before .before .before .before .before .before .before .before .before .before .pre .0)

@@ -1,10 +1,8 @@
 -- `tables::line::comparison` meets its contract.
-use mathlib.Core.Path.{_≡_, refl, sym, _∙_, ap, ap₂}
+use mathlib.Core.Path.{_≡_, sym, ap}
 use native.Mathlib.Omega.{arith}
-use Prim.Native.Nat.{ℕ, zero, suc, _+_, _-_, _*_, _^_, _≤_, _<_}
-use borrow.Author.Needs.{needs}
 use Rattle.rows.specs.Symbols as symbols
-use Rattle.stored.specs.Tree.{comparisonOf, symbolOf}
+use Rattle.stored.specs.Tree.{comparisonOf}
 use Rattle.tables.proofs.line.comparison.Statement.{statement}
 use Rattle.tables.proofs.line.comparison.Tie as tie
 

@@ -1,9 +1,9 @@
 -- `tables::line::count_row` meets its contract.
-use mathlib.Core.Path.{_≡_, refl, sym, _∙_, ap, ap₂}
+use mathlib.Core.Path.{_≡_, _∙_, ap}
 use native.Mathlib.Omega.{arith}
-use Prim.Native.Nat.{ℕ, zero, suc, _+_, _-_, _*_, _^_, _≤_, _<_}
+use Prim.Native.Nat.{_-_}
 use borrow.Author.Needs.{needs}
-use Rattle.rows.specs.Row.{row, joined, starred}
+use Rattle.rows.specs.Row.{row}
 use Rattle.stored.specs.Tree.{formulaOp}
 use Rattle.tables.specs.Step.{rowOf}
 use Rattle.tables.proofs.Rows.{row-told}

@@ -1,7 +1,6 @@
 -- `tables::line::drawing_row` meets its contract.
-use mathlib.Core.Path.{_≡_, refl, sym, _∙_, ap, ap₂}
+use mathlib.Core.Path.{_≡_, _∙_, ap}
 use native.Mathlib.Omega.{arith}
-use Prim.Native.Nat.{ℕ, zero, suc, _+_, _-_, _*_, _^_, _≤_, _<_}
 use borrow.Author.Needs.{needs}
 use Rattle.rows.specs.Row.{row}
 use Rattle.stored.specs.Tree.{formulaOp}

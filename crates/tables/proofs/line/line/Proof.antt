@@ -1,7 +1,5 @@
 -- `tables::line::line` meets its contract.
-use mathlib.Core.Path.{_≡_, refl, sym, _∙_, ap, ap₂}
 use native.Mathlib.Omega.{arith}
-use Prim.Native.Nat.{ℕ, zero, suc, _+_, _-_, _*_, _^_, _≤_, _<_}
 use borrow.Author.Needs.{needs}
 use Rattle.stored.specs.Tree.{formulaOp}
 use Rattle.tables.proofs.Rows.{line-inside, line-past}

@@ -1,10 +1,8 @@
 -- `tables::words::joined_at` meets its contract.
-use mathlib.Core.Path.{_≡_, refl, sym, _∙_, ap, ap₂}
-use native.Mathlib.Omega.{arith}
-use Prim.Native.Nat.{ℕ, zero, suc, _+_, _-_, _*_, _^_, _≤_, _<_}
+use mathlib.Core.Path.{refl, _∙_}
 use borrow.Author.Needs.{needs}
 use Rattle.tables.specs.Table.{rowAt}
-use Rattle.tables.proofs.Rows.{joined-ext, starred-ext, part-row}
+use Rattle.tables.proofs.Rows.{joined-ext, part-row}
 use Rattle.tables.proofs.words.joined_at.Statement.{statement}
 use Rattle.tables.proofs.words.joined_at.Tie as tie
 

@@ -1,14 +1,10 @@
-use Rattle.translator.proofs.Names.{small-mask, named-as, before-as, joined-below, joined-union}
-use Prim.Native.Nat.{ℕ, _<_, _^_}
-use mathlib.Core.Path.{_≡_, sym, _∙_, ap, subst}
+use Rattle.translator.proofs.Names.{small-mask}
 use Rattle.translator.specs.Emission.{clauseCost}
-use Rattle.semantics.specs.Proposition.{bit}
 use Rattle.semantics.specs.Placement.{noNames}
-use Rattle.semantics.specs.Translation.{placed, once, shortestOf, unansweredOf, brokenOf}
-use Rattle.semantics.specs.Formula.{chop, conjunction, disjunction, negation}
-use Rattle.translator.proofs.Names.{small-mask, named-as, before-as, bit-union, joint-below}
+use Rattle.semantics.specs.Translation.{placed, brokenOf}
+use Rattle.semantics.specs.Formula.{chop, conjunction, negation}
+use Rattle.translator.proofs.Names.{small-mask}
 use Rattle.translator.proofs.Steps.{steps, wider, has-kept, formed, ready-kept, small-kept, over, over₂}
-use borrow.Author.Needs.{needs}
 use native.Mathlib.Omega.{arith}
 use Rattle.translator.proofs.clause.put_implies.Statement.{statement}
 use Rattle.translator.proofs.clause.put_implies.Tie as tie

@@ -1,8 +1,6 @@
 use Rattle.stored.specs.Clause.{kindOf, partsUsed}
 use Rattle.semantics.specs.Translation.{brokenOf}
-use Prim.Native.Nat.{ℕ}
-use mathlib.Core.Path.{_≡_, refl, sym, subst}
-use borrow.Author.Needs.{needs}
+use mathlib.Core.Path.{_≡_}
 use native.Mathlib.Omega.{arith}
 use Rattle.translator.proofs.clause.put_kind.Statement.{statement}
 use Rattle.translator.proofs.clause.put_kind.Tie as tie

@@ -1,14 +1,10 @@
-use Rattle.translator.proofs.Names.{small-mask, named-as, before-as, joined-below, joined-union}
-use Prim.Native.Nat.{ℕ, _<_, _^_}
-use mathlib.Core.Path.{_≡_, sym, _∙_, ap, subst}
+use Rattle.translator.proofs.Names.{named-as, joined-below, joined-union}
 use Rattle.translator.specs.Emission.{clauseCost}
-use Rattle.semantics.specs.Proposition.{bit}
 use Rattle.semantics.specs.Placement.{noNames}
-use Rattle.semantics.specs.Translation.{placed, once, shortestOf, unansweredOf, brokenOf}
-use Rattle.semantics.specs.Formula.{chop, conjunction, disjunction, negation}
-use Rattle.translator.proofs.Names.{small-mask, named-as, before-as, bit-union, joint-below}
+use Rattle.semantics.specs.Translation.{placed, once, brokenOf}
+use Rattle.semantics.specs.Formula.{chop, conjunction}
+use Rattle.translator.proofs.Names.{named-as}
 use Rattle.translator.proofs.Steps.{steps, wider, has-kept, formed, ready-kept, small-kept, over, over₂}
-use borrow.Author.Needs.{needs}
 use native.Mathlib.Omega.{arith}
 use Rattle.translator.proofs.clause.put_triggers.Statement.{statement}
 use Rattle.translator.proofs.clause.put_triggers.Tie as tie

@@ -1,6 +1,5 @@
 use Rattle.translator.specs.Bound.{isDrawing}
 use Rattle.translator.proofs.Copied.{node-fits, may-copied, copied-drawing, copied-plain}
-use borrow.Author.Needs.{needs}
 use native.Mathlib.Omega.{arith}
 use Rattle.translator.proofs.copy.copy_node.Statement.{statement}
 use Rattle.translator.proofs.copy.copy_node.Tie as tie

@@ -1,12 +1,11 @@
-use Rattle.translator.proofs.Copied.{mapped-kept, mapped-next, cost-next, costs-most, cost-most}
+use Rattle.translator.proofs.Copied.{mapped-kept, mapped-next, cost-next, costs-most}
 use Rattle.translator.proofs.Steps.{stay, steps, wider, ready-kept}
-use mathlib.Core.Path.{_≡_, refl, sym, _∙_, ap}
+use mathlib.Core.Path.{_≡_, refl, ap}
 use lib.ListN.{length, length-set}
-use Prim.Native.Nat.{ℕ, _+_, _-_, _*_, _≤_, _<_}
+use Prim.Native.Nat.{_-_, _≤_}
 use Rattle.translator.specs.Emission.{Step}
 use Rattle.stored.specs.Node.{nodeAt}
 use Rattle.translator.specs.Copying.{Mapped, copyCosts}
-use borrow.Author.Needs.{needs}
 use native.Mathlib.Omega.{arith}
 use Rattle.translator.proofs.copy.copy_nodes.Statement.{statement}
 use Rattle.translator.proofs.copy.copy_nodes.Tie as tie

@@ -1,5 +1,4 @@
 use Rattle.translator.specs.Copying.{mappedTo}
-use borrow.Author.Needs.{needs}
 use native.Mathlib.Omega.{arith}
 use Rattle.translator.proofs.copy.mapped.Statement.{statement}
 use Rattle.translator.proofs.copy.mapped.Tie as tie

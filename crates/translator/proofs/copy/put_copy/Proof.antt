@@ -1,5 +1,4 @@
 use Rattle.translator.specs.Copying.{copiedNode}
-use borrow.Author.Needs.{needs}
 use native.Mathlib.Omega.{arith}
 use Rattle.translator.proofs.copy.put_copy.Statement.{statement}
 use Rattle.translator.proofs.copy.put_copy.Tie as tie

@@ -1,10 +1,7 @@
-use mathlib.Core.Path.{_≡_}
 use Rattle.semantics.specs.Translation.{undrawn}
 use Rattle.stored.specs.Tree.{formulaOf, formulaOp}
 use Rattle.translator.proofs.Copied.{symbol-right, mark-right, gap-right, gap-is}
 use Rattle.translator.specs.Copying.{drawingOf}
-use borrow.Author.Needs.{needs}
-use native.Mathlib.Omega.{arith}
 use Rattle.translator.proofs.copy.put_drawing.Statement.{statement}
 use Rattle.translator.proofs.copy.put_drawing.Tie as tie
 

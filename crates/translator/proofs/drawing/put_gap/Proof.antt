@@ -1,8 +1,7 @@
 use Rattle.stored.specs.Tree.{comparisonOf}
-use Rattle.semantics.specs.Translation.{undrawnMark, undrawnGap}
+use Rattle.semantics.specs.Translation.{undrawnGap}
 use Rattle.semantics.specs.Formula.{chop, conjunction, point}
 use Rattle.translator.proofs.Steps.{steps, wider, has-kept, proposition-kept, formed, formed-proposition, over₂, over-proposition}
-use borrow.Author.Needs.{needs}
 use native.Mathlib.Omega.{arith}
 use Rattle.translator.proofs.drawing.put_gap.Statement.{statement}
 use Rattle.translator.proofs.drawing.put_gap.Tie as tie

@@ -1,8 +1,7 @@
 use Rattle.stored.specs.Tree.{comparisonOf}
-use Rattle.semantics.specs.Translation.{undrawnMark, undrawnGap}
-use Rattle.semantics.specs.Formula.{chop, conjunction, point}
+use Rattle.semantics.specs.Translation.{undrawnMark}
+use Rattle.semantics.specs.Formula.{conjunction, point}
 use Rattle.translator.proofs.Steps.{steps, wider, has-kept, proposition-kept, formed, formed-proposition, over₂, over-proposition}
-use borrow.Author.Needs.{needs}
 use native.Mathlib.Omega.{arith}
 use Rattle.translator.proofs.drawing.put_mark.Statement.{statement}
 use Rattle.translator.proofs.drawing.put_mark.Tie as tie

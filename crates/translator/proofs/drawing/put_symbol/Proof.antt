@@ -1,12 +1,10 @@
-use Prim.Native.Nat.{ℕ}
-use mathlib.Core.Path.{_≡_, sym, ap}
+use mathlib.Core.Path.{_≡_}
 use Rattle.stored.specs.Tree.{symbolOf, comparisonOf}
-use Rattle.semantics.specs.Translation.{undrawnSymbol, anywhere}
+use Rattle.semantics.specs.Translation.{undrawnSymbol}
 use Rattle.semantics.specs.Proposition.{negated}
 use Rattle.semantics.specs.Formula.{unit, stretch, disjunction}
 use Rattle.translator.proofs.Symbols.{either-is}
-use Rattle.translator.proofs.Steps.{stay, steps, wider, within-cost, has-kept, proposition-kept, formed, formed-proposition, over₂, over-proposition, still, emits-as}
-use borrow.Author.Needs.{needs}
+use Rattle.translator.proofs.Steps.{stay, steps, wider, within-cost, has-kept, proposition-kept, formed, formed-proposition, over₂, over-proposition, still}
 use native.Mathlib.Omega.{arith}
 use Rattle.translator.proofs.drawing.put_symbol.Statement.{statement}
 use Rattle.translator.proofs.drawing.put_symbol.Tie as tie

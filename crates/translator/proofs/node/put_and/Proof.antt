@@ -1,6 +1,5 @@
 use Rattle.translator.proofs.Nodes.{may-and, and-made}
 use borrow.Author.Needs.{needs}
-use native.Mathlib.Omega.{arith}
 use Rattle.translator.proofs.node.put_and.Statement.{statement}
 use Rattle.translator.proofs.node.put_and.Tie as tie
 

@@ -1,6 +1,5 @@
 use Rattle.translator.proofs.Nodes.{may-chop, chop-made}
 use borrow.Author.Needs.{needs}
-use native.Mathlib.Omega.{arith}
 use Rattle.translator.proofs.node.put_chop.Statement.{statement}
 use Rattle.translator.proofs.node.put_chop.Tie as tie
 

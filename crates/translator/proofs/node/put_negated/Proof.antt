@@ -1,6 +1,5 @@
 use Rattle.translator.proofs.Nodes.{may-negated, negated-made}
 use borrow.Author.Needs.{needs}
-use native.Mathlib.Omega.{arith}
 use Rattle.translator.proofs.node.put_negated.Statement.{statement}
 use Rattle.translator.proofs.node.put_negated.Tie as tie
 

@@ -1,6 +1,5 @@
 use Rattle.translator.proofs.Nodes.{may-not, not-made}
 use borrow.Author.Needs.{needs}
-use native.Mathlib.Omega.{arith}
 use Rattle.translator.proofs.node.put_not.Statement.{statement}
 use Rattle.translator.proofs.node.put_not.Tie as tie
 

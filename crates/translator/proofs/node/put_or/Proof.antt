@@ -1,6 +1,5 @@
 use Rattle.translator.proofs.Nodes.{may-or, or-made}
 use borrow.Author.Needs.{needs}
-use native.Mathlib.Omega.{arith}
 use Rattle.translator.proofs.node.put_or.Statement.{statement}
 use Rattle.translator.proofs.node.put_or.Tie as tie
 

@@ -1,6 +1,5 @@
 use Rattle.translator.proofs.Nodes.{may-signal, signal-made}
 use borrow.Author.Needs.{needs}
-use native.Mathlib.Omega.{arith}
 use Rattle.translator.proofs.node.put_signal.Statement.{statement}
 use Rattle.translator.proofs.node.put_signal.Tie as tie
 

@@ -1,6 +1,5 @@
 use Rattle.translator.proofs.Nodes.{may-slen, slen-made}
 use borrow.Author.Needs.{needs}
-use native.Mathlib.Omega.{arith}
 use Rattle.translator.proofs.node.put_slen.Statement.{statement}
 use Rattle.translator.proofs.node.put_slen.Tie as tie
 

@@ -1,6 +1,5 @@
 use Rattle.translator.proofs.Nodes.{may-some, some-made}
 use borrow.Author.Needs.{needs}
-use native.Mathlib.Omega.{arith}
 use Rattle.translator.proofs.node.put_some.Statement.{statement}
 use Rattle.translator.proofs.node.put_some.Tie as tie
 

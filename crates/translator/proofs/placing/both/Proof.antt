@@ -1,4 +1,3 @@
-use native.Mathlib.Omega.{arith}
 use mathlib.Core.Path.{refl}
 use Rattle.translator.proofs.placing.both.Statement.{statement}
 use Rattle.translator.proofs.placing.both.Tie as tie

@@ -1,8 +1,8 @@
 use Rattle.semantics.specs.Formula.{conjunction, forSome}
-use mathlib.Core.Path.{_≡_, sym, _∙_}
+use mathlib.Core.Path.{sym, _∙_}
 use borrow.Author.Tests.{not-true, not-false}
 use Rattle.translator.proofs.Names.{name-left, name-marked, name-placed}
-use Rattle.translator.proofs.Steps.{formed, has-kept, over, over₂, steps}
+use Rattle.translator.proofs.Steps.{formed, over, over₂}
 use borrow.Author.Needs.{needs}
 use native.Mathlib.Omega.{arith}
 use Rattle.translator.proofs.placing.put_name.Statement.{statement}

@@ -1,10 +1,9 @@
 use Rattle.translator.specs.Emission.{placedCosts}
 use Prim.Native.Nat.{ℕ, _<_}
-use mathlib.Core.Path.{_≡_, sym, subst}
+use mathlib.Core.Path.{sym, subst}
 use Rattle.semantics.specs.Translation.{placedName, placed}
 use Rattle.translator.proofs.Names.{named-below, cost-two}
-use Rattle.translator.proofs.Steps.{steps, has-kept, formed, ready-kept, over}
-use borrow.Author.Needs.{needs}
+use Rattle.translator.proofs.Steps.{steps, formed, ready-kept, over}
 use native.Mathlib.Omega.{arith}
 use Rattle.translator.proofs.placing.put_names.Statement.{statement}
 use Rattle.translator.proofs.placing.put_names.Tie as tie

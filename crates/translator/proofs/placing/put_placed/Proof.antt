@@ -1,7 +1,6 @@
-use Rattle.translator.proofs.Names.{placed-cheap, once-cheap, bit-none, named-as, before-as, placed-every}
-use Rattle.translator.proofs.Steps.{within-cost, emits-as}
+use Rattle.translator.proofs.Names.{placed-cheap}
+use Rattle.translator.proofs.Steps.{within-cost}
 use borrow.Author.Needs.{needs}
-use native.Mathlib.Omega.{arith}
 use Rattle.translator.proofs.placing.put_placed.Statement.{statement}
 use Rattle.translator.proofs.placing.put_placed.Tie as tie
 

@@ -1,4 +1,4 @@
-use mathlib.Core.Path.{_≡_, _∙_}
+use mathlib.Core.Path.{_∙_}
 use Rattle.translator.proofs.Printing.{written-printed, number-small, refusal-printed}
 use borrow.Author.Needs.{needs}
 use native.Mathlib.Omega.{arith}

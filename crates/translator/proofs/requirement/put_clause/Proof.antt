@@ -1,5 +1,4 @@
 use Rattle.translator.specs.Copying.{brokenIn}
-use borrow.Author.Needs.{needs}
 use native.Mathlib.Omega.{arith}
 use Rattle.translator.proofs.requirement.put_clause.Statement.{statement}
 use Rattle.translator.proofs.requirement.put_clause.Tie as tie

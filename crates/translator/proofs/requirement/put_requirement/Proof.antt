@@ -2,14 +2,12 @@ use Rattle.translator.proofs.Joining.{Joins, joins-start, joins-kept, j
 use Rattle.translator.proofs.Copied.{mapped-kept, costs-most}
 use Rattle.translator.proofs.Nodes.{may-or}
 use Rattle.translator.proofs.Steps.{stay, steps, wider, formed, has-kept, ready-kept}
-use mathlib.Core.Path.{_≡_, refl, sym, _∙_, ap, ap₂}
-use lib.ListN.{length, length-set}
-use Prim.Native.Nat.{ℕ, _+_, _-_, _*_, _≤_, _<_}
+use mathlib.Core.Path.{_≡_, sym, _∙_, ap₂}
+use Prim.Native.Nat.{ℕ, _+_, _-_, _*_, _≤_}
 use Rattle.translator.specs.Emission.{Step, clauseCost}
 use Rattle.stored.specs.Sheet.{headerOf}
 use Rattle.stored.specs.Node.{nodeAt}
 use Rattle.translator.specs.Copying.{clausesAt, clauseAt, requirementCost}
-use borrow.Author.Needs.{needs}
 use native.Mathlib.Omega.{arith}
 use Rattle.translator.proofs.requirement.put_requirement.Statement.{statement}
 use Rattle.translator.proofs.requirement.put_requirement.Tie as tie

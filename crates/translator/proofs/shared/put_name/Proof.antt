@@ -1,5 +1,5 @@
-use Rattle.translator.proofs.SharedNodes.{shared-start, shared-next}
-use Rattle.translator.proofs.Nodes.{may-slen, may-name, may-once, name-made}
+use Rattle.translator.proofs.SharedNodes.{shared-next}
+use Rattle.translator.proofs.Nodes.{may-name, may-once, name-made}
 use Rattle.translator.proofs.Steps.{steps}
 use borrow.Author.Needs.{needs}
 use native.Mathlib.Omega.{arith}

@@ -1,9 +1,7 @@
-use Rattle.stored.specs.Sheet.{headerOf}
 use Rattle.translator.specs.Emission.{count, Step, Shared}
-use mathlib.Core.Path.{_≡_, sym, _∙_, subst}
-use Prim.Native.Nat.{ℕ, _+_, _-_, _*_, _≤_}
+use mathlib.Core.Path.{_≡_, subst}
+use Prim.Native.Nat.{_+_, _-_, _*_, _≤_}
 use Rattle.translator.proofs.Steps.{stay, steps, wider}
-use borrow.Author.Needs.{needs}
 use native.Mathlib.Omega.{arith}
 use Rattle.translator.proofs.shared.put_shared.Statement.{statement}
 use Rattle.translator.proofs.shared.put_shared.Tie as tie

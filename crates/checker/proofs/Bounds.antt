@@ -1,29 +1,52 @@
--- The numbers in an answer of the check have one or two digits.
+-- The numbers in an answer of check or table have one or two digits.
 use Prim.Native.Nat.{ℕ, zero, suc, _+_, _≤_, _<_}
 use mathlib.Core.Bool.{Bool, true, false, cond}
 use mathlib.Core.List.{List, [], _∷_}
-use mathlib.Core.Path.{_≡_, refl, sym, _∙_, ap}
+use mathlib.Core.Logic.{inl, inr}
+use mathlib.Core.Path.{_≡_, refl}
 use native.Mathlib.Omega.{arith}
 use borrow.Author.Tests.{eqb-true, eqb-false}
 use lib.Dec.{eqb, leb}
-use lib.ListN.{length, take, drop, replicate, length-replicate}
-use Rattle.semantics.specs.Cycles.{someBelow, firstBelow}
+use lib.ListN.{length}
+use Rattle.semantics.specs.Cycles.{firstBelow}
 use Rattle.semantics.specs.Proposition.{Trace}
 use Rattle.semantics.specs.Clause.{assumption, commitment, Clause, breaks}
 use Rattle.semantics.specs.Verdict as semantics
 use Rattle.semantics.specs.Verdict.{failsAs, firstPlace, excusedOr, brokenOr, verdict}
-use Rattle.stored.specs.Sheet.{headerOf, clausesOf, clauseIn, sheetRefusal, sheetRules}
+use Rattle.stored.specs.Bytes.{lowest}
+use Rattle.stored.specs.Sheet.{headerOf, nodesOf, clausesOf, clauseIn, sheetRefusal, sheetRules}
 use Rattle.stored.specs.Trace.{cyclesOf, cycleCount, traceRefusal, traceRules}
 use Rattle.stored.specs.Tree.{pick}
-use Rattle.stored.proofs.Rules.{length-inOrder}
+use Rattle.stored.proofs.Rules.{length-inOrder, lowest-law}
 use Rattle.stored.proofs.Accepted.{opened, trace-opened, cycles-count}
-use Rattle.checker.specs.declared.check.Answer.{Answer}
 use Rattle.checker.specs.declared.check.Answer.the-variants.{Refused}
-use Rattle.checker.specs.Table.{orElse, wordsRefusal}
+use Rattle.checker.specs.Table.{orElse, wordsRefusal, nodeRules, nodeRefusal, tableRefusal, tableAnswer, answerFor}
 use Rattle.checker.specs.Check.{told, checkRefusal, checkAnswer}
-use Rattle.printed.specs.Input.{splitAt, sheetOf, traceOf}
-use Rattle.printed.specs.Line.{answerFor, SmallPlace, Small}
-use Rattle.printed.proofs.Answers.{lowest-small, or-small}
+use Rattle.checker.specs.Small.{Small}
+
+-- refusals are numbers below 100
+pub lowest-small : (k : ℕ) (rules : List Bool) → 0 < k → k + length rules ≤ 100 → lowest k rules < 100
+lowest-small k rules p h =
+    elim (lowest-law k rules p .range) [
+      | inl e ↦ omega arith
+      | inr u ↦ (let most = u .1 in omega arith)
+    ]
+
+or-small : (a b : ℕ) → a < 100 → b < 100 → orElse a b < 100
+unfolding orElse
+or-small a b p q = go (eqb a 0)
+  where
+    go : (t : Bool) → cond t b a < 100
+    go true = q
+    go false = p
+
+pub table-small : (s t : List ℕ) (node p0 p1 p2 : ℕ) (words : List ℕ) → tableAnswer s t node p0 p1 p2 words .refused < 100
+unfolding tableAnswer answerFor tableRefusal wordsRefusal nodeRefusal nodeRules sheetRefusal sheetRules traceRefusal traceRules
+table-small s t node p0 p1 p2 words =
+    or-small _ _ (lowest-small 1 (sheetRules s) (omega arith) (omega arith))
+    (or-small _ _ (lowest-small 10 (traceRules (headerOf s .signals) t) (omega arith) (omega arith))
+    (or-small _ _ (lowest-small 15 (leb 4096 (length words) ∷ []) (omega arith) (omega arith))
+    (lowest-small 16 (nodeRules (nodesOf s) (headerOf s .nodes) (cycleCount t) (headerOf s .names) node p0 p1 p2) (omega arith) (omega arith))))
 
 -- ---- a verdict's numbers
 first-most : (n : ℕ) (p : ℕ → Bool) → firstBelow n p ≤ n
@@ -102,14 +125,3 @@ answer-small s t words = go (eqb (checkRefusal s t words) 0) (λ e. accepted-sma
         → Small (pick b (told (verdict (clausesOf s) (cyclesOf t))) (Refused (checkRefusal s t words)))
     go true p q = p refl
     go false p q = q
-
--- ---- the program's input as the check's
-check-words : (s t v w : List ℕ) → length v ≡ length w → checkAnswer s t v ≡ checkAnswer s t w
-unfolding checkAnswer checkRefusal wordsRefusal
-check-words s t v w e = rw e
-
-pub check-is : (input s t : List ℕ) (end : ℕ) (words : List ℕ) → end ≡ splitAt input → s ≡ take end input → t ≡ drop end input → 4096 ≡ length words
-    → checkAnswer s t words ≡ answerFor input
-unfolding answerFor sheetOf traceOf
-check-is input s t end words e f g l =
-    check-words s t words (replicate 4096 0) (sym l ∙ sym (length-replicate {A = ℕ} 4096 0)) ∙ rw (f, g, e)
