@@ -1,0 +1,124 @@
+/* Calls the library from C: the scope paper's example, and a refusal of each operation. Prints a line for each check and
+   returns 1 where one fails. */
+#include "fasunqir.h"
+#include <stdio.h>
+
+/* One signal and one clause: anti(<signal 0>), a commitment. */
+static const uint8_t sheet[] = {
+    0x00, 0x1E, 0x01, 0x01, 0x01, 0x00, 0x00, 0x02, 0x01,             /* one signal, no names, two nodes, one clause */
+    0x03, 0x00, 0x00, 0x00, 0x00, 0x00,                               /* node 0: signal 0 */
+    0x10, 0x00, 0x00, 0x00, 0x00, 0x00,                               /* node 1: <node 0> */
+    0x03, 0x01, 0x00, 0x01, 0x00, 0x00, 0x00, 0x00, 0x00, 0x00, 0x00, /* clause 0: anti, a commitment, root 1 */
+};
+
+/* Three cycles, the signal high in the last. */
+static const uint8_t trace[] = {0x00, 0x08, 0x01, 0x01, 0x00, 0x00, 0x00, 0x00, 0x00, 0x01};
+
+/* One more of each than is needed. */
+static uint64_t words[FASUNQIR_WORDS + 1];
+static uint64_t rows[FASUNQIR_ROWS + 1];
+static uint8_t out[FASUNQIR_OUTPUT + 1];
+
+static int failed;
+
+static void expect(int ok, const char *what) {
+    printf("%s %s\n", ok ? "ok" : "FAILED", what);
+    failed |= !ok;
+}
+
+static uint64_t answer(uint64_t tag, uint64_t value) {
+    return tag + 256 * value;
+}
+
+/* Fills what is lent with 7, so that every change shows. */
+static void lend(void) {
+    for (size_t i = 0; i <= FASUNQIR_WORDS; i++)
+        words[i] = 7;
+    for (size_t i = 0; i <= FASUNQIR_ROWS; i++)
+        rows[i] = 7;
+    for (size_t i = 0; i <= FASUNQIR_OUTPUT; i++)
+        out[i] = 7;
+}
+
+static int all_words(uint64_t value) {
+    for (size_t i = 0; i <= FASUNQIR_WORDS; i++)
+        if (words[i] != value)
+            return 0;
+    return 1;
+}
+
+static int rows_kept(size_t from) {
+    for (size_t i = from; i <= FASUNQIR_ROWS; i++)
+        if (rows[i] != 7)
+            return 0;
+    return 1;
+}
+
+static int bytes_kept(size_t from) {
+    for (size_t i = from; i <= FASUNQIR_OUTPUT; i++)
+        if (out[i] != 7)
+            return 0;
+    return 1;
+}
+
+static void checks(void) {
+    lend();
+    uint64_t broken = fasunqir_check(sheet, sizeof sheet, trace, sizeof trace, words, FASUNQIR_WORDS + 1);
+    expect(broken == answer(FASUNQIR_BROKEN, 0 * 262144 + 2 * 4096 + 2 * 64 + 2), "check: BROKEN 0 2 2 2");
+    expect(all_words(0), "check: the words are zero");
+
+    lend();
+    uint64_t refused = fasunqir_check(sheet, sizeof sheet, trace, 3, words, FASUNQIR_WORDS + 1);
+    expect(refused == answer(FASUNQIR_REFUSED, 10), "check: a trace of 3 bytes is refused by 10");
+    expect(all_words(7), "check: refused, the words are as they were");
+}
+
+static void tables(void) {
+    lend();
+    uint64_t written = fasunqir_table(sheet, sizeof sheet, trace, sizeof trace, 1, 0, 0, 0, words, FASUNQIR_WORDS + 1, rows,
+                                      FASUNQIR_ROWS + 1);
+    expect(written == answer(FASUNQIR_WRITTEN, 0), "table: node 1 has one");
+    int right = 1;
+    for (size_t b = 0; b < FASUNQIR_ROWS; b++)
+        right &= rows[b] == (b == 2 ? 1 << 2 : 0);
+    expect(right, "table: <signal 0> holds on [2,2] alone");
+    expect(rows_kept(FASUNQIR_ROWS), "table: the 65th row keeps its value");
+    expect(all_words(0), "table: the words are zero");
+
+    lend();
+    uint64_t refused = fasunqir_table(sheet, sizeof sheet, trace, sizeof trace, 1, 0, 0, 0, words, FASUNQIR_WORDS + 1, rows,
+                                      FASUNQIR_ROWS - 1);
+    expect(refused == answer(FASUNQIR_REFUSED, 15), "table: 63 rows are refused by 15");
+    uint64_t lower = fasunqir_table(sheet, sizeof sheet, trace, 3, 1, 0, 0, 0, words, FASUNQIR_WORDS + 1, rows,
+                                    FASUNQIR_ROWS - 1);
+    expect(lower == answer(FASUNQIR_REFUSED, 10), "table: 63 rows and a trace of 3 bytes are refused by 10");
+    uint64_t no_formula = fasunqir_table(sheet, sizeof sheet, trace, sizeof trace, 0, 0, 0, 0, words, FASUNQIR_WORDS + 1,
+                                         rows, FASUNQIR_ROWS + 1);
+    expect(no_formula == answer(FASUNQIR_REFUSED, 16), "table: node 0 is refused by 16");
+    expect(rows_kept(0) && all_words(7), "table: refused, rows and words are as they were");
+}
+
+static void translations(void) {
+    lend();
+    uint64_t written = fasunqir_translate(sheet, sizeof sheet, out, FASUNQIR_OUTPUT);
+    size_t length = (size_t)(written / 256);
+    size_t nodes = (size_t)out[6] * 256 + out[7];
+    expect(written % 256 == FASUNQIR_WRITTEN && length <= FASUNQIR_OUTPUT, "translate: a formula is written");
+    expect((size_t)out[0] * 256 + out[1] + 2 == length, "translate: bytes 0-1 are its length less 2");
+    expect(out[2] == 1 && out[3] == 2 && out[4] == 1 && out[5] == 0 && out[8] == 0,
+           "translate: version 1, kind 2, one signal, no names, no clauses");
+    expect(length == 9 + 6 * nodes && nodes <= 21, "translate: it has at most 2 + 3 + 16 nodes");
+    expect(bytes_kept(length), "translate: later bytes keep their values");
+
+    lend();
+    uint64_t refused = fasunqir_translate(sheet, sizeof sheet, out, FASUNQIR_OUTPUT - 1);
+    expect(refused == answer(FASUNQIR_REFUSED, 14), "translate: 8,191 bytes are refused by 14");
+    expect(bytes_kept(0), "translate: refused, the bytes are as they were");
+}
+
+int main(void) {
+    checks();
+    tables();
+    translations();
+    return failed;
+}

@@ -1,0 +1,52 @@
+/* The proved check, table and translator of sheets, as libexports.a has them.
+
+   Sheets and traces are bytes in the stored layout. Every pointer is of as many elements as the length after it says, and
+   none is null; what is lent to be written overlaps nothing else that is passed. No pointer is kept.
+
+   An answer is a tag and 256 times a value. Tag 0: refused, and the value is the number of the refusal, 1 to 17. Whatever
+   was lent is then as it was. */
+#ifndef FASUNQIR_H
+#define FASUNQIR_H
+
+#include <stddef.h>
+#include <stdint.h>
+
+#ifdef __cplusplus
+extern "C" {
+#endif
+
+enum {
+    FASUNQIR_REFUSED = 0,
+    FASUNQIR_EXCUSED = 1, /* the value is the first failing assumption */
+    FASUNQIR_BROKEN = 2,  /* the value is the place: clause * 262144 + i * 4096 + j * 64 + k */
+    FASUNQIR_HOLDS = 3,
+    FASUNQIR_WRITTEN = 4  /* the value is the length of the sheet written, and 0 for a table */
+};
+
+enum {
+    FASUNQIR_WORDS = 4096, /* the words that check and table borrow, at least */
+    FASUNQIR_ROWS = 64,    /* the rows of a table; the lent ones may be more */
+    FASUNQIR_OUTPUT = 8192 /* the bytes that the translator is lent, at least */
+};
+
+/* The verdict of a sheet on a trace: EXCUSED, BROKEN or HOLDS. The lent words are all zero afterwards. */
+uint64_t fasunqir_check(const uint8_t *sheet, size_t sheet_len, const uint8_t *trace, size_t trace_len,
+                        uint64_t *words, size_t words_len);
+
+/* The table of a formula node, names 0, 1 and 2 on cycles p0, p1 and p2, those that the sheet lacks ignored: WRITTEN. Row b
+   has bit e set exactly if b <= e, both are cycles of the trace and the node holds on [b,e]. The first 64 of the lent rows
+   are the table's and later ones keep their values; the lent words are all zero afterwards. Under 64 rows are refused by 15,
+   as under 4,096 words are. */
+uint64_t fasunqir_table(const uint8_t *sheet, size_t sheet_len, const uint8_t *trace, size_t trace_len, size_t node,
+                        size_t p0, size_t p1, size_t p2, uint64_t *words, size_t words_len, uint64_t *rows,
+                        size_t rows_len);
+
+/* Writes the formula of a sheet, a sheet of kind 2, into the lent bytes: WRITTEN. Bytes from its length on keep their
+   values. */
+uint64_t fasunqir_translate(const uint8_t *sheet, size_t sheet_len, uint8_t *out, size_t out_len);
+
+#ifdef __cplusplus
+}
+#endif
+
+#endif

@@ -1,0 +1,432 @@
+//! A plain bit-parallel checker without proofs: the obvious fast algorithm, against which the
+//! library's speed is measured. A table of 64 rows a node under one placement of the names; the
+//! names that a clause quantifies universally move in the outer loops, and a node is computed again
+//! only if a name that it reaches was moved. It reads accepted sheets and traces.
+
+#![allow(dead_code, clippy::needless_range_loop)]
+
+#[derive(Clone, Copy, Debug, PartialEq, Eq)]
+pub enum Verdict {
+    Holds,
+    Excused(usize),
+    Broken(usize, usize, usize, usize),
+}
+
+#[derive(Clone, Copy)]
+struct Node {
+    op: u8,
+    q: u8,
+    a: usize,
+    b: usize,
+}
+
+struct Clause {
+    kind: u8,
+    role: u8,
+    roots: [usize; 3],
+    masks: [u8; 3],
+}
+
+type Rows = [u64; 64];
+
+pub struct Checker {
+    nodes: Vec<Node>,
+    reach: Vec<u8>,
+    clauses: Vec<Clause>,
+    cycles: usize,
+    names: usize,
+    signals: [u64; 16],
+    tables: Vec<Rows>,
+    placed: [usize; 3],
+}
+
+fn field(bytes: &[u8], at: usize) -> usize {
+    bytes[at] as usize * 256 + bytes[at + 1] as usize
+}
+
+/// The bits from `from` up.
+fn from_bit(from: usize) -> u64 {
+    if from < 64 {
+        u64::MAX << from
+    } else {
+        0
+    }
+}
+
+/// The bits below `below`.
+fn below_bit(below: usize) -> u64 {
+    !from_bit(below)
+}
+
+/// A bit in every node's reach, for the first fill.
+const FIRST: u8 = 8;
+
+impl Checker {
+    pub fn new(sheet: &[u8], trace: &[u8]) -> Self {
+        let n = field(sheet, 6);
+        let nodes: Vec<Node> = (0..n)
+            .map(|i| {
+                let at = 9 + 6 * i;
+                let (a, b) = (field(sheet, at + 2), field(sheet, at + 4));
+                Node { op: sheet[at], q: sheet[at + 1], a, b }
+            })
+            .collect();
+        let mut reach: Vec<u8> = vec![];
+        for node in &nodes {
+            reach.push(match node.op {
+                4 | 28 => FIRST | 1 << node.a,
+                29 => FIRST | 1 << (node.q / 16) | 1 << (node.q % 16),
+                5 | 16..=19 | 23 | 25 | 26 => reach[node.a],
+                6 | 7 | 20..=22 => reach[node.a] | reach[node.b],
+                _ => FIRST,
+            });
+        }
+        let clauses = (0..sheet[8] as usize)
+            .map(|i| {
+                let at = 9 + 6 * n + 11 * i;
+                Clause {
+                    kind: sheet[at],
+                    role: sheet[at + 1],
+                    roots: [2, 4, 6].map(|off| field(sheet, at + off)),
+                    masks: [8, 9, 10].map(|off| sheet[at + off]),
+                }
+            })
+            .collect();
+        let cycles = (trace.len() - 4) / 2;
+        let mut signals = [0; 16];
+        for t in 0..cycles {
+            let word = field(trace, 4 + 2 * t);
+            for (k, column) in signals.iter_mut().enumerate() {
+                *column |= ((word >> k & 1) as u64) << t;
+            }
+        }
+        let tables = vec![[0; 64]; n];
+        let names = sheet[5] as usize;
+        Checker { nodes, reach, clauses, cycles, names, signals, tables, placed: [0; 3] }
+    }
+
+    pub fn table(&mut self, node: usize, cycles: [usize; 3]) -> Rows {
+        self.placed[..self.names].copy_from_slice(&cycles[..self.names]);
+        self.fill(FIRST);
+        self.tables[node]
+    }
+
+    fn fill(&mut self, moved: u8) {
+        for i in 0..self.nodes.len() {
+            if self.reach[i] & moved != 0 {
+                self.fill_node(i);
+            }
+        }
+    }
+
+    fn fill_node(&mut self, i: usize) {
+        let Node { op, q, a, b } = self.nodes[i];
+        let cycles = self.cycles;
+        let trace = below_bit(cycles);
+        let (before, here) = self.tables.split_at_mut(i);
+        let rows = &mut here[0];
+        match op {
+            1 => rows[0] = 0,
+            2 => rows[0] = trace,
+            3 => rows[0] = self.signals[a],
+            4 => rows[0] = 1 << self.placed[a],
+            5 => rows[0] = !before[a][0] & trace,
+            6 => rows[0] = before[a][0] & before[b][0],
+            7 => rows[0] = before[a][0] | before[b][0],
+            16 => {
+                for (t, row) in rows[..cycles].iter_mut().enumerate() {
+                    *row = if before[a][0] >> t & 1 == 1 { from_bit(t) & trace } else { 0 };
+                }
+            }
+            17 => stretch(rows, before[a][0], cycles),
+            18 => {
+                for (t, row) in rows[..cycles].iter_mut().enumerate() {
+                    let run = (before[a][0] >> t).trailing_ones() as usize;
+                    *row = from_bit(t) & below_bit(t + run) & trace;
+                }
+            }
+            19 => unit(rows, before[a][0], cycles),
+            20 => {
+                for t in 0..cycles {
+                    let mut left = before[a][t];
+                    let mut row = 0;
+                    while left != 0 {
+                        row |= before[b][left.trailing_zeros() as usize];
+                        left &= left - 1;
+                    }
+                    rows[t] = row;
+                }
+            }
+            21 => {
+                for t in 0..cycles {
+                    rows[t] = before[a][t] & before[b][t];
+                }
+            }
+            22 => {
+                for t in 0..cycles {
+                    rows[t] = before[a][t] | before[b][t];
+                }
+            }
+            23 => {
+                for t in (0..cycles).rev() {
+                    let mut links = before[a][t] & from_bit(t + 1);
+                    let mut row = 1 << t;
+                    while links != 0 {
+                        row |= rows[links.trailing_zeros() as usize];
+                        links &= links - 1;
+                    }
+                    rows[t] = row;
+                }
+            }
+            24 => measured(rows, cycles, q, b, |x, y| y - x),
+            25 => {
+                let column = before[a][0];
+                measured(rows, cycles, q, b, |x, y| {
+                    (column & from_bit(x) & below_bit(y + 1)).count_ones() as usize
+                })
+            }
+            26 => {
+                let column = before[a][0];
+                measured(rows, cycles, q, b, |x, y| {
+                    (column & from_bit(x) & below_bit(y)).count_ones() as usize
+                })
+            }
+            27 => {
+                let high = self.signals[a];
+                let low = !high & trace;
+                match q {
+                    0 => unit(rows, low, cycles),
+                    1 => unit(rows, high, cycles),
+                    2 | 3 => unit(rows, trace, cycles),
+                    4 => stretch(rows, low, cycles),
+                    5 => stretch(rows, high, cycles),
+                    6 => stretch(rows, trace, cycles),
+                    _ => {
+                        let mut other = [0; 64];
+                        stretch(rows, low, cycles);
+                        stretch(&mut other, high, cycles);
+                        for t in 0..cycles {
+                            rows[t] |= other[t];
+                        }
+                    }
+                }
+            }
+            28 => {
+                rows[..cycles].fill(0);
+                rows[self.placed[a]] = 1 << self.placed[a];
+            }
+            29 => {
+                let (x, y) = (self.placed[(q / 16) as usize], self.placed[(q % 16) as usize]);
+                rows[..cycles].fill(0);
+                if x <= y && a <= y - x && y - x <= b {
+                    rows[..=x].fill(from_bit(y) & trace);
+                }
+            }
+            _ => unreachable!(),
+        }
+    }
+
+    /// Row x of a part, only the intervals that hold the cycles of the part's names.
+    fn inside(&self, row: u64, names: u8, x: usize) -> u64 {
+        let mut row = row;
+        for u in 0..3 {
+            if names >> u & 1 == 1 {
+                row &= if self.placed[u] < x { 0 } else { from_bit(self.placed[u]) };
+            }
+        }
+        row
+    }
+
+    /// The least of the places i · 4096 + j · 64 + k where the clause breaks.
+    fn first_broken(&mut self, c: usize) -> Option<usize> {
+        let clause = &self.clauses[c];
+        let [m1, m2, m3] = clause.masks;
+        let (universal, answering) = match clause.kind {
+            1 => (0, m1),
+            2 => (m2, m1),
+            3 => (m1, 0),
+            4 => (m1, m2),
+            _ => (m1 | m3, m2),
+        };
+        let outer: Vec<usize> = (0..3).filter(|u| universal >> u & 1 == 1).collect();
+        let inner: Vec<usize> = (0..3).filter(|u| (answering & !universal) >> u & 1 == 1).collect();
+        let mut best = usize::MAX;
+        self.start(&outer);
+        loop {
+            self.unanswered(c, &inner, &mut best);
+            if !self.advance(&outer) {
+                break;
+            }
+        }
+        (best != usize::MAX).then_some(best)
+    }
+
+    fn start(&mut self, names: &[usize]) {
+        let mut moved = 0;
+        for &u in names {
+            self.placed[u] = 0;
+            moved |= 1 << u;
+        }
+        if moved != 0 {
+            self.fill(moved);
+        }
+    }
+
+    /// The next placement, the last name fastest.
+    fn advance(&mut self, names: &[usize]) -> bool {
+        let mut moved = 0;
+        for &u in names.iter().rev() {
+            moved |= 1 << u;
+            self.placed[u] += 1;
+            if self.placed[u] < self.cycles {
+                self.fill(moved);
+                return true;
+            }
+            self.placed[u] = 0;
+        }
+        false
+    }
+
+    fn answers(&mut self, root: usize, names: u8, inner: &[usize]) -> Rows {
+        let mut answers = [0; 64];
+        self.start(inner);
+        loop {
+            for x in 0..self.cycles {
+                answers[x] |= self.inside(self.tables[root][x], names, x);
+            }
+            if !self.advance(inner) {
+                return answers;
+            }
+        }
+    }
+
+    fn unanswered(&mut self, c: usize, inner: &[usize], best: &mut usize) {
+        let Clause { kind, roots, masks, .. } = self.clauses[c];
+        let cycles = self.cycles;
+        match kind {
+            1 => {
+                let missing = !self.answers(roots[0], masks[0], inner)[0] & below_bit(cycles);
+                if missing != 0 {
+                    *best = (*best).min(65 * missing.trailing_zeros() as usize);
+                }
+            }
+            2 => {
+                let premise = self.inside(self.tables[roots[1]][0], masks[1], 0);
+                if premise != 0 {
+                    let answered = self.answers(roots[0], masks[0], inner)[0];
+                    let early = premise & below_bit(answered.trailing_zeros() as usize);
+                    if early != 0 {
+                        *best = (*best).min(65 * early.trailing_zeros() as usize);
+                    }
+                }
+            }
+            3 | 4 => {
+                let mut first = [0; 64];
+                for i in 0..cycles {
+                    first[i] = self.inside(self.tables[roots[0]][i], masks[0], i);
+                }
+                if first.iter().all(|&row| row == 0) {
+                    return;
+                }
+                let answers =
+                    if kind == 3 { [0; 64] } else { self.answers(roots[1], masks[1], inner) };
+                for i in 0..cycles {
+                    let open = first[i] & !answers[i];
+                    if open != 0 {
+                        *best = (*best).min(4096 * i + 65 * open.trailing_zeros() as usize);
+                        return;
+                    }
+                }
+            }
+            _ => self.unanswered_limited(c, inner, best),
+        }
+    }
+
+    fn unanswered_limited(&mut self, c: usize, inner: &[usize], best: &mut usize) {
+        let Clause { kind, roots, masks, .. } = self.clauses[c];
+        let cycles = self.cycles;
+        let mut first = [0; 64];
+        let mut third = [0; 64];
+        for x in 0..cycles {
+            first[x] = self.inside(self.tables[roots[0]][x], masks[0], x);
+            let row = self.tables[roots[2]][x];
+            third[x] = self.inside(row & row.wrapping_neg(), masks[2], x);
+        }
+        if first.iter().all(|&row| row == 0) || third.iter().all(|&row| row == 0) {
+            return;
+        }
+        let answers = self.answers(roots[1], masks[1], inner);
+        for i in 0..cycles {
+            let mut ends = first[i];
+            while ends != 0 {
+                let j = ends.trailing_zeros() as usize;
+                ends &= ends - 1;
+                let x = if kind == 5 { j } else { i };
+                if third[x] != 0 {
+                    let k = third[x].trailing_zeros() as usize;
+                    if answers[x] & below_bit(k + 1) == 0 {
+                        *best = (*best).min(4096 * i + 64 * j + k);
+                        return;
+                    }
+                }
+            }
+        }
+    }
+
+    pub fn check(&mut self) -> Verdict {
+        self.placed = [0; 3];
+        self.fill(FIRST);
+        for c in 0..self.clauses.len() {
+            if self.clauses[c].role == 0 && self.first_broken(c).is_some() {
+                return Verdict::Excused(c);
+            }
+        }
+        for c in 0..self.clauses.len() {
+            if self.clauses[c].role == 1 {
+                if let Some(place) = self.first_broken(c) {
+                    return Verdict::Broken(c, place / 4096, place / 64 % 64, place % 64);
+                }
+            }
+        }
+        Verdict::Holds
+    }
+}
+
+/// Rows of [column].
+fn stretch(rows: &mut Rows, column: u64, cycles: usize) {
+    for (t, row) in rows[..cycles].iter_mut().enumerate() {
+        let run = (column >> t).trailing_ones() as usize;
+        *row = from_bit(t) & below_bit(t + run + 1) & below_bit(cycles);
+    }
+}
+
+/// Rows of {{column}}.
+fn unit(rows: &mut Rows, column: u64, cycles: usize) {
+    for (t, row) in rows[..cycles].iter_mut().enumerate() {
+        *row = if t + 1 < cycles { (column >> t & 1) << (t + 1) } else { 0 };
+    }
+}
+
+fn measured(
+    rows: &mut Rows,
+    cycles: usize,
+    q: u8,
+    with: usize,
+    measure: impl Fn(usize, usize) -> usize,
+) {
+    for x in 0..cycles {
+        let mut row = 0;
+        for y in x..cycles {
+            let found = measure(x, y);
+            let passes = match q {
+                0 => found < with,
+                1 => found <= with,
+                2 => found == with,
+                3 => found >= with,
+                _ => found > with,
+            };
+            row |= (passes as u64) << y;
+        }
+        rows[x] = row;
+    }
+}

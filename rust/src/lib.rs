@@ -1,0 +1,345 @@
+//! Sheets are timing diagrams with limited liveness, traces are what was observed. [`check`] says
+//! which clause of a sheet a trace breaks and where, [`table`] on which intervals a formula of the
+//! sheet holds, and [`translate`] writes the sheet as a QDDC formula.
+//!
+//! The three operations are proved in Rattle; this crate gives them Rust types and adds nothing to
+//! them. Sheets and traces are bytes in the stored layout.
+//!
+//! ```
+//! use fasunqir::{check, Place, Verdict};
+//!
+//! // One signal and one clause: anti(⟨signal 0⟩), a commitment.
+//! let sheet = [
+//!     0x00, 0x1E, 1, 1, 1, 0, 0, 2, 1, // header: one signal, no names, two nodes, one clause
+//!     3, 0, 0, 0, 0, 0, // node 0: signal 0
+//!     16, 0, 0, 0, 0, 0, // node 1: ⟨node 0⟩
+//!     3, 1, 0, 1, 0, 0, 0, 0, 0, 0, 0, // clause 0: anti, commitment, root 1
+//! ];
+//! // Three cycles, the signal high in the last.
+//! let trace = [0x00, 0x08, 1, 1, 0, 0, 0, 0, 0, 1];
+//!
+//! let place = Place { clause: 0, i: 2, j: 2, k: 2 };
+//! assert_eq!(check(&sheet, &trace), Ok(Verdict::Broken(place)));
+//! ```
+
+use std::error::Error;
+use std::fmt;
+
+/// Words of 64 bits that check and table borrow, at least.
+pub const WORDS: usize = 4096;
+
+/// Rows of an interval table.
+pub const ROWS: usize = 64;
+
+/// Bytes that the translator's output has, at least.
+pub const OUTPUT: usize = 8192;
+
+mod boundary {
+    extern "C" {
+        pub fn fasunqir_check(
+            sheet: *const u8,
+            sheet_len: usize,
+            trace: *const u8,
+            trace_len: usize,
+            words: *mut u64,
+            words_len: usize,
+        ) -> u64;
+
+        pub fn fasunqir_table(
+            sheet: *const u8,
+            sheet_len: usize,
+            trace: *const u8,
+            trace_len: usize,
+            node: usize,
+            c0: usize,
+            c1: usize,
+            c2: usize,
+            words: *mut u64,
+            words_len: usize,
+            rows: *mut u64,
+            rows_len: usize,
+        ) -> u64;
+
+        pub fn fasunqir_translate(
+            sheet: *const u8,
+            sheet_len: usize,
+            out: *mut u8,
+            out_len: usize,
+        ) -> u64;
+    }
+}
+
+/// Where a commitment is broken: its clause and three cycles. For pref and init `i` is 0; for pref,
+/// init, anti and implies `k` is `j`.
+#[derive(Clone, Copy, Debug, PartialEq, Eq, PartialOrd, Ord, Hash)]
+pub struct Place {
+    pub clause: usize,
+    pub i: usize,
+    pub j: usize,
+    pub k: usize,
+}
+
+/// What a check finds. It prints as the program prints it.
+#[derive(Clone, Copy, Debug, PartialEq, Eq, Hash)]
+pub enum Verdict {
+    /// Every assumption and every commitment holds.
+    Holds,
+    /// An assumption fails; this is the first.
+    Excused { clause: usize },
+    /// Every assumption holds and a commitment fails; this is the first place.
+    Broken(Place),
+}
+
+impl fmt::Display for Verdict {
+    fn fmt(&self, out: &mut fmt::Formatter<'_>) -> fmt::Result {
+        match self {
+            Verdict::Holds => write!(out, "HOLDS"),
+            Verdict::Excused { clause } => write!(out, "EXCUSED {clause}"),
+            Verdict::Broken(Place { clause, i, j, k }) => {
+                write!(out, "BROKEN {clause} {i} {j} {k}")
+            }
+        }
+    }
+}
+
+/// Why an operation gave no answer: the lowest of the numbers 1–17 that applies.
+///
+/// ```
+/// let refusal = fasunqir::check(&[], &[]).unwrap_err();
+/// assert_eq!(refusal.number(), 1);
+/// assert_eq!(
+///     refusal.to_string(),
+///     "1: the sheet has under 9 bytes or bytes 0–1 aren't its length less 2"
+/// );
+/// ```
+#[derive(Clone, Copy, Debug, PartialEq, Eq, PartialOrd, Ord, Hash)]
+pub struct Refusal {
+    number: u8,
+}
+
+const REFUSALS: [&str; 17] = [
+    "the sheet has under 9 bytes or bytes 0–1 aren't its length less 2",
+    "the sheet's version isn't 1",
+    "the sheet's kind isn't 1",
+    "a count s, m, n or c is outside its range for kind 1",
+    "the sheet's length isn't 9 + 6n + 11c",
+    "a node has an op not of kind 1, a nonzero unused field, a signal, name, comparison or symbol \
+     out of range, or a gap with a > b",
+    "an operand isn't an earlier node of the sort needed",
+    "a clause has a type outside 1–6, a role above 1, a used root that isn't a formula node, or a \
+     nonzero unused root or mask",
+    "a mask has a bit for a name from m up, or a part reaches a name its mask lacks",
+    "the trace has under 4 bytes or bytes 0–1 aren't its length less 2",
+    "the trace's version isn't 1",
+    "the trace's signals aren't the sheet's",
+    "the trace's cycles aren't 1–64 whole words, or a bit from s up is set",
+    "the output has under 8,192 bytes",
+    "the lent words are under 4,096",
+    "the node asked for isn't a formula node",
+    "a name below m is put on no cycle of the trace",
+];
+
+impl Refusal {
+    /// The number, 1–17.
+    pub fn number(self) -> u8 {
+        self.number
+    }
+
+    /// What the number stands for.
+    pub fn text(self) -> &'static str {
+        REFUSALS[self.number as usize - 1]
+    }
+}
+
+impl fmt::Display for Refusal {
+    fn fmt(&self, out: &mut fmt::Formatter<'_>) -> fmt::Result {
+        write!(out, "{}: {}", self.number, self.text())
+    }
+}
+
+impl Error for Refusal {}
+
+/// The intervals on which a formula node holds.
+#[derive(Clone, Copy, Debug, PartialEq, Eq)]
+pub struct Table {
+    /// Row b has bit e set exactly if b ≤ e, both are cycles of the trace and the node holds on
+    /// \[b,e\].
+    pub rows: [u64; ROWS],
+}
+
+impl Table {
+    /// Whether the node holds from cycle `b` to cycle `e`.
+    pub fn holds(&self, b: usize, e: usize) -> bool {
+        b < ROWS && e < ROWS && self.rows[b] >> e & 1 == 1
+    }
+}
+
+/// An answer as it crosses the boundary: tag + 256 · value.
+enum Answer {
+    Refused(Refusal),
+    Verdict(Verdict),
+    Done(usize),
+}
+
+fn unpack(answer: u64) -> Answer {
+    let value = (answer / 256) as usize;
+    match answer % 256 {
+        0 if (1..=17).contains(&value) => Answer::Refused(Refusal { number: value as u8 }),
+        1 => Answer::Verdict(Verdict::Excused { clause: value }),
+        2 => Answer::Verdict(Verdict::Broken(Place {
+            clause: value / 262_144,
+            i: value / 4096 % 64,
+            j: value / 64 % 64,
+            k: value % 64,
+        })),
+        3 if value == 0 => Answer::Verdict(Verdict::Holds),
+        4 => Answer::Done(value),
+        _ => panic!("no answer of the boundary: {answer:#x}"),
+    }
+}
+
+/// The verdict of a sheet on a trace.
+///
+/// ```
+/// use fasunqir::{check, Verdict};
+///
+/// # let sheet = [
+/// #     0x00, 0x1E, 1, 1, 1, 0, 0, 2, 1, 3, 0, 0, 0, 0, 0, 16, 0, 0, 0, 0, 0,
+/// #     3, 1, 0, 1, 0, 0, 0, 0, 0, 0, 0,
+/// # ];
+/// // The sheet of the crate's example: signal 0 is never high.
+/// let quiet = [0x00, 0x06, 1, 1, 0, 0, 0, 0];
+/// assert_eq!(check(&sheet, &quiet), Ok(Verdict::Holds));
+///
+/// let two_signals = [0x00, 0x06, 1, 2, 0, 0, 0, 0];
+/// assert_eq!(check(&sheet, &two_signals).unwrap_err().number(), 12);
+/// ```
+pub fn check(sheet: &[u8], trace: &[u8]) -> Result<Verdict, Refusal> {
+    check_with(sheet, trace, &mut vec![0; WORDS])
+}
+
+/// [`check`] in lent words, [`WORDS`] or more; answered, it leaves them all zero, and refused, as
+/// they were.
+///
+/// ```
+/// # let sheet = [
+/// #     0x00, 0x1E, 1, 1, 1, 0, 0, 2, 1, 3, 0, 0, 0, 0, 0, 16, 0, 0, 0, 0, 0,
+/// #     3, 1, 0, 1, 0, 0, 0, 0, 0, 0, 0,
+/// # ];
+/// let mut words = vec![7; fasunqir::WORDS];
+/// let trace = [0x00, 0x04, 1, 1, 0, 0];
+/// assert!(fasunqir::check_with(&sheet, &trace, &mut words).is_ok());
+/// assert!(words.iter().all(|&word| word == 0));
+/// ```
+pub fn check_with(sheet: &[u8], trace: &[u8], words: &mut [u64]) -> Result<Verdict, Refusal> {
+    // Each pointer is of a live slice of the length that goes with it, and the operation keeps none.
+    let answer = unsafe {
+        boundary::fasunqir_check(
+            sheet.as_ptr(),
+            sheet.len(),
+            trace.as_ptr(),
+            trace.len(),
+            words.as_mut_ptr(),
+            words.len(),
+        )
+    };
+    match unpack(answer) {
+        Answer::Verdict(verdict) => Ok(verdict),
+        Answer::Refused(refusal) => Err(refusal),
+        Answer::Done(_) => panic!("no answer of a check: {answer:#x}"),
+    }
+}
+
+/// On which intervals formula node `node` of a sheet holds, name u marked at `cycles[u]`; the cycles
+/// of names that the sheet doesn't have are ignored.
+///
+/// ```
+/// # let sheet = [
+/// #     0x00, 0x1E, 1, 1, 1, 0, 0, 2, 1, 3, 0, 0, 0, 0, 0, 16, 0, 0, 0, 0, 0,
+/// #     3, 1, 0, 1, 0, 0, 0, 0, 0, 0, 0,
+/// # ];
+/// // Node 1 of the crate's example is ⟨signal 0⟩; the signal is high at cycle 1 of three.
+/// let trace = [0x00, 0x08, 1, 1, 0, 0, 0, 1, 0, 0];
+/// let table = fasunqir::table(&sheet, &trace, 1, [0, 0, 0]).unwrap();
+/// assert!(table.holds(1, 2));
+/// assert_eq!(table.rows[..4], [0, 0b110, 0, 0]);
+/// ```
+pub fn table(
+    sheet: &[u8],
+    trace: &[u8],
+    node: usize,
+    cycles: [usize; 3],
+) -> Result<Table, Refusal> {
+    let mut rows = [0; ROWS];
+    table_with(sheet, trace, node, cycles, &mut vec![0; WORDS], &mut rows)?;
+    Ok(Table { rows })
+}
+
+/// [`table`] in lent words, [`WORDS`] or more, and into lent rows, [`ROWS`] or more; fewer of either
+/// are refused by 15.
+pub fn table_with(
+    sheet: &[u8],
+    trace: &[u8],
+    node: usize,
+    cycles: [usize; 3],
+    words: &mut [u64],
+    rows: &mut [u64],
+) -> Result<(), Refusal> {
+    let [c0, c1, c2] = cycles;
+    // Each pointer is of a live slice of the length that goes with it, and the operation keeps none.
+    let answer = unsafe {
+        boundary::fasunqir_table(
+            sheet.as_ptr(),
+            sheet.len(),
+            trace.as_ptr(),
+            trace.len(),
+            node,
+            c0,
+            c1,
+            c2,
+            words.as_mut_ptr(),
+            words.len(),
+            rows.as_mut_ptr(),
+            rows.len(),
+        )
+    };
+    match unpack(answer) {
+        Answer::Done(0) => Ok(()),
+        Answer::Refused(refusal) => Err(refusal),
+        _ => panic!("no answer of a table: {answer:#x}"),
+    }
+}
+
+/// The QDDC formula of a sheet, as the bytes of a sheet of kind 2. It is true of a trace exactly
+/// when the sheet's requirement is.
+///
+/// ```
+/// # let sheet = [
+/// #     0x00, 0x1E, 1, 1, 1, 0, 0, 2, 1, 3, 0, 0, 0, 0, 0, 16, 0, 0, 0, 0, 0,
+/// #     3, 1, 0, 1, 0, 0, 0, 0, 0, 0, 0,
+/// # ];
+/// let formula = fasunqir::translate(&sheet).unwrap();
+/// assert_eq!(formula[2..6], [1, 2, 1, 0]); // version 1, kind 2, one signal, no names
+/// let nodes = u16::from_be_bytes([formula[6], formula[7]]) as usize;
+/// assert_eq!(formula.len(), 9 + 6 * nodes);
+/// ```
+pub fn translate(sheet: &[u8]) -> Result<Vec<u8>, Refusal> {
+    let mut out = vec![0; OUTPUT];
+    let length = translate_into(sheet, &mut out)?;
+    out.truncate(length);
+    Ok(out)
+}
+
+/// [`translate`] into lent bytes, [`OUTPUT`] or more; gives the formula's length, and the bytes from
+/// there on keep their values.
+pub fn translate_into(sheet: &[u8], out: &mut [u8]) -> Result<usize, Refusal> {
+    // Each pointer is of a live slice of the length that goes with it, and the operation keeps none.
+    let answer = unsafe {
+        boundary::fasunqir_translate(sheet.as_ptr(), sheet.len(), out.as_mut_ptr(), out.len())
+    };
+    match unpack(answer) {
+        Answer::Done(length) => Ok(length),
+        Answer::Refused(refusal) => Err(refusal),
+        Answer::Verdict(_) => panic!("no answer of a translation: {answer:#x}"),
+    }
+}

@@ -1,0 +1,35 @@
+//! Sheets and traces with the verdict that they are to have: the examples and traps of document 01
+//! and the specifications of document 004. They are run on the reference and on the library.
+
+#![allow(dead_code)]
+
+pub mod examples;
+pub mod paper;
+
+use crate::build::{Sheet, Trace};
+use crate::reference::clauses::Verdict;
+
+pub struct Case {
+    pub what: &'static str,
+    pub sheet: Vec<u8>,
+    pub trace: Vec<u8>,
+    pub verdict: Verdict,
+}
+
+impl Case {
+    pub fn new(what: &'static str, sheet: &Sheet, trace: &Trace, verdict: Verdict) -> Self {
+        Case { what, sheet: sheet.bytes(), trace: trace.bytes(), verdict }
+    }
+}
+
+/// Whether a formula node holds from b to e.
+pub struct OnInterval {
+    pub what: &'static str,
+    pub sheet: Vec<u8>,
+    pub trace: Vec<u8>,
+    pub node: usize,
+    pub cycles: [usize; 3],
+    pub b: usize,
+    pub e: usize,
+    pub holds: bool,
+}

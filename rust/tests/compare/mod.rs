@@ -1,0 +1,191 @@
+//! The library beside the reference: the same answer, and what was lent afterwards as document 01
+//! says. A difference is printed with the bytes in hexadecimal, to be replayed.
+
+#![allow(dead_code)]
+
+use crate::build::{hex, Trace};
+use crate::reference::clauses::{self, Verdict};
+use crate::reference::{self, formula, stored, Number};
+use fasunqir::Place;
+use std::io::Write;
+
+/// Says on the terminal, past the test harness, how much was run.
+pub fn report(line: String) {
+    std::io::stderr().write_all((line + "\n").as_bytes()).unwrap();
+}
+
+/// The bytes of a sheet and a trace, also left in files, and the command that lays one over the
+/// other.
+fn kept(sheet: &[u8], trace: &[u8]) -> String {
+    let sum = sheet.iter().chain(trace).fold(7u32, |sum, &b| sum.wrapping_mul(31) + b as u32);
+    let folder = format!("target/replay/{sum:08x}");
+    let path = std::path::Path::new(env!("CARGO_MANIFEST_DIR")).join(&folder);
+    let (sheet, trace) = (hex(sheet), hex(trace));
+    let written = std::fs::create_dir_all(&path).is_ok()
+        && std::fs::write(path.join("sheet.hex"), &sheet).is_ok()
+        && std::fs::write(path.join("trace.hex"), &trace).is_ok();
+    let command = if written {
+        format!("./sheetcheck rust/{folder}/sheet.hex rust/{folder}/trace.hex")
+    } else {
+        "the bytes could not be left in files".to_string()
+    };
+    format!("sheet {sheet}\ntrace {trace}\n{command}")
+}
+
+/// The words lent to an operation hold anything.
+fn lent(length: usize) -> Vec<u64> {
+    (0..length as u64).map(|i| (i + 1).wrapping_mul(0x9E37_79B9_7F4A_7C15) | 1).collect()
+}
+
+fn lent_bytes(length: usize) -> Vec<u8> {
+    (0..length).map(|i| (i * 37 + 11) as u8).collect()
+}
+
+fn number<T>(answer: Result<T, fasunqir::Refusal>) -> Result<T, Number> {
+    answer.map_err(|refusal| refusal.number())
+}
+
+fn as_reference(verdict: fasunqir::Verdict) -> Verdict {
+    match verdict {
+        fasunqir::Verdict::Holds => Verdict::Holds,
+        fasunqir::Verdict::Excused { clause } => Verdict::Excused(clause),
+        fasunqir::Verdict::Broken(Place { clause, i, j, k }) => Verdict::Broken(clause, i, j, k),
+    }
+}
+
+/// Words after a check or a table: as before if it refused, all zero if it answered.
+fn words_after<T>(
+    answer: &Result<T, Number>,
+    before: &[u64],
+    after: &[u64],
+    replay: impl Fn() -> String,
+) {
+    match answer {
+        Ok(_) => assert!(after.iter().all(|&word| word == 0), "words left behind\n{}", replay()),
+        Err(_) => assert!(before == after, "words changed by a refusal\n{}", replay()),
+    }
+}
+
+pub fn check(sheet: &[u8], trace: &[u8], words: usize) -> Result<Verdict, Number> {
+    let replay = || format!("check, {words} words\n{}", kept(sheet, trace));
+    let before = lent(words);
+    let mut after = before.clone();
+    let found = number(fasunqir::check_with(sheet, trace, &mut after)).map(as_reference);
+    assert_eq!(found, reference::check(sheet, trace, words), "{}", replay());
+    words_after(&found, &before, &after, replay);
+    found
+}
+
+pub fn table(
+    sheet: &[u8],
+    trace: &[u8],
+    node: usize,
+    cycles: [usize; 3],
+    words: usize,
+    rows: usize,
+) -> Result<[u64; 64], Number> {
+    let replay = || {
+        let kept = kept(sheet, trace);
+        format!("table of node {node} at {cycles:?}, {words} words, {rows} rows\n{kept}")
+    };
+    let before = lent(words);
+    let mut after = before.clone();
+    let rows_before = lent(rows);
+    let mut rows_after = rows_before.clone();
+    let answer = fasunqir::table_with(sheet, trace, node, cycles, &mut after, &mut rows_after);
+    let found = number(answer).map(|()| <[u64; 64]>::try_from(&rows_after[..64]).unwrap());
+    assert_eq!(found, reference::table(sheet, trace, node, cycles, words, rows), "{}", replay());
+    words_after(&found, &before, &after, replay);
+    // Lent rows are as they were where the table is refused, and past its 64.
+    let written = if found.is_ok() { 64 } else { 0 };
+    assert!(rows_before[written..] == rows_after[written..], "rows past the table\n{}", replay());
+    found
+}
+
+/// A sheet with its formula.
+pub struct Translated {
+    pub sheet: Vec<u8>,
+    pub source: stored::Sheet,
+    pub formula: stored::Sheet,
+}
+
+/// Translates and checks the form, the bound, and the bytes after the formula.
+pub fn translate(sheet: &[u8], out: usize) -> Result<Translated, Number> {
+    let replay = || format!("translate into {out} bytes\nsheet {}", hex(sheet));
+    let before = lent_bytes(out);
+    let mut after = before.clone();
+    let found = number(fasunqir::translate_into(sheet, &mut after));
+    let source = match (reference::translate(sheet, out), &found) {
+        (Ok(source), Ok(_)) => source,
+        (Err(expected), Err(number)) => {
+            assert_eq!(*number, expected, "{}", replay());
+            assert!(before == after, "output changed by a refusal\n{}", replay());
+            return Err(expected);
+        }
+        (expected, _) => {
+            panic!("found {found:?}, refusal expected {:?}\n{}", expected.err(), replay())
+        }
+    };
+    let length = found?;
+    assert!(length <= out, "length {length}\n{}", replay());
+    assert!(before[length..] == after[length..], "bytes past the formula\n{}", replay());
+    let formula = formula::formula(&after[..length], &source)
+        .unwrap_or_else(|wrong| panic!("{wrong}\nformula {}\n{}", hex(&after[..length]), replay()));
+    Ok(Translated { sheet: sheet.to_vec(), source, formula })
+}
+
+impl Translated {
+    /// The formula, evaluated over all columns, is true of a list of cycles exactly when the
+    /// requirement is; and, where the list fits a stored trace, exactly when the check doesn't give
+    /// Broken.
+    pub fn agrees(&self, cycles: &[u16]) -> bool {
+        let trace = Trace::new(self.source.signals as u8, cycles).bytes();
+        let replay = || format!("agreement\n{}", kept(&self.sheet, &trace));
+        let truth = formula::truth(&self.formula, cycles);
+        assert_eq!(truth, clauses::requirement(&self.source, cycles), "{}", replay());
+        if cycles.len() <= 64 {
+            let verdict = check(&self.sheet, &trace, 4096);
+            let broken = matches!(verdict, Ok(Verdict::Broken(..)));
+            assert_eq!(truth, !broken, "{verdict:?}\n{}", replay());
+        }
+        truth
+    }
+}
+
+/// Counts of what was found.
+#[derive(Default)]
+pub struct Tally {
+    pub holds: usize,
+    pub excused: usize,
+    pub broken: usize,
+    pub refused: usize,
+    pub tables: usize,
+    pub formulas: usize,
+    pub evaluations: usize,
+}
+
+impl Tally {
+    pub fn count(&mut self, answer: &Result<Verdict, Number>) {
+        match answer {
+            Ok(Verdict::Holds) => self.holds += 1,
+            Ok(Verdict::Excused(_)) => self.excused += 1,
+            Ok(Verdict::Broken(..)) => self.broken += 1,
+            Err(_) => self.refused += 1,
+        }
+    }
+
+    pub fn print(&self, what: &str) {
+        let checks = self.holds + self.excused + self.broken + self.refused;
+        report(format!(
+            "{what}: {checks} checks ({} hold, {} excused, {} broken, {} refused), {} tables, \
+             {} formulas evaluated {} times",
+            self.holds,
+            self.excused,
+            self.broken,
+            self.refused,
+            self.tables,
+            self.formulas,
+            self.evaluations
+        ));
+    }
+}

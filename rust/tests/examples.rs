@@ -1,0 +1,76 @@
+//! The library on document 01's examples, program input and traps, and on the specifications of
+//! document 004.
+
+mod build;
+mod cases;
+mod compare;
+mod generate;
+mod reference;
+
+use cases::{examples, paper, Case};
+use compare::Tally;
+use generate::Random;
+use reference::stored::is_formula;
+
+/// The verdict, every table of the sheet, and the formula on short traces.
+fn run(what: &str, cases: Vec<Case>) {
+    let mut tally = Tally::default();
+    let mut random = Random::new(3);
+    for case in &cases {
+        let verdict = compare::check(&case.sheet, &case.trace, 4096);
+        assert_eq!(verdict, Ok(case.verdict), "{}", case.what);
+        tally.count(&verdict);
+        let translated = compare::translate(&case.sheet, 8192).unwrap();
+        tally.formulas += 1;
+        let source = &translated.source;
+        let cycles = (case.trace.len() - 4) / 2;
+        for node in (0..source.nodes.len()).filter(|&i| is_formula(source.nodes[i].op)) {
+            let places = [0; 3].map(|_| random.below(cycles));
+            compare::table(&case.sheet, &case.trace, node, places, 4096, 64).unwrap();
+            tally.tables += 1;
+        }
+        if source.names == 0 {
+            let words = reference::stored::trace(&case.trace, source).unwrap();
+            translated.agrees(&words);
+            tally.evaluations += 1;
+        }
+        for _ in 0..20 {
+            let cycles = random.between(1, [5, 5, 4, 3][source.names]);
+            let trace = generate::trace(&mut random, source.signals, cycles);
+            translated.agrees(&trace.cycles);
+            tally.evaluations += 1;
+        }
+    }
+    tally.print(what);
+}
+
+#[test]
+fn proved_examples() {
+    for case in examples::proved() {
+        let rows = compare::table(&case.sheet, &case.trace, case.node, case.cycles, 4096, 64);
+        assert_eq!(rows.unwrap()[case.b] >> case.e & 1 == 1, case.holds, "{}", case.what);
+    }
+}
+
+#[test]
+fn program_input() {
+    let case = examples::program();
+    let verdict = fasunqir::check(&case.sheet, &case.trace).unwrap();
+    assert_eq!(verdict.to_string(), "BROKEN 0 2 2 2");
+    run("program input", vec![case]);
+}
+
+#[test]
+fn traps() {
+    run("traps", examples::traps());
+}
+
+#[test]
+fn corners() {
+    run("corners", examples::corners());
+}
+
+#[test]
+fn specifications_of_the_paper() {
+    run("specifications of the paper", paper::cases());
+}

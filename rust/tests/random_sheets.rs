@@ -1,0 +1,369 @@
+//! Thousands of random sheets and traces, the library beside the reference. Seeds are fixed; a
+//! difference prints the bytes, which `replay` takes again.
+
+mod build;
+mod compare;
+mod generate;
+mod reference;
+
+use build::{from_hex, Part, Role, Sheet};
+use compare::Tally;
+use generate::{damaged, Random, Shape};
+use reference::stored::{self, is_formula};
+
+type Draw = fn(&mut Random, Shape) -> Sheet;
+const DRAWS: [Draw; 3] = [generate::plain, generate::drawn, generate::marked];
+
+/// Columns of all names together that are still enumerated: cycles · names.
+const COLUMNS: usize = 12;
+
+/// One check, tables of some nodes and, where the columns can be enumerated, the formula.
+fn one(random: &mut Random, tally: &mut Tally, sheet: &Sheet, cycles: usize) {
+    let bytes = sheet.bytes();
+    let trace = generate::trace(random, sheet.signals as usize, cycles);
+    let trace_bytes = trace.bytes();
+    let words = random.pick(&[4096, 4096, 4097, 5000]);
+    let verdict = compare::check(&bytes, &trace_bytes, words);
+    assert!(verdict.is_ok(), "a good sheet was refused by {}", verdict.unwrap_err());
+    tally.count(&verdict);
+
+    let formulas: Vec<usize> =
+        (0..sheet.nodes.len()).filter(|&i| is_formula(sheet.nodes[i][0])).collect();
+    for _ in 0..3 {
+        let node = random.pick(&formulas);
+        let places = [0; 3].map(|_| random.below(cycles));
+        let places: [usize; 3] = std::array::from_fn(|u| {
+            if u < sheet.names as usize {
+                places[u]
+            } else {
+                random.next() as usize
+            }
+        });
+        compare::table(&bytes, &trace_bytes, node, places, words, 64).unwrap();
+        tally.tables += 1;
+    }
+
+    let translated = compare::translate(&bytes, 8192).unwrap();
+    tally.formulas += 1;
+    if cycles * sheet.names as usize <= COLUMNS {
+        translated.agrees(&trace.cycles);
+        tally.evaluations += 1;
+    }
+}
+
+fn short(seed: u64, draw: Draw, what: &str) {
+    let mut random = Random::new(seed);
+    let mut tally = Tally::default();
+    for _ in 0..4000 {
+        let shape = Shape {
+            signals: random.between(1, 4),
+            names: random.below(4),
+            nodes: random.between(2, 20),
+            clauses: random.between(1, 4),
+            numbers: 5,
+        };
+        let sheet = draw(&mut random, shape);
+        let cycles = random.between(1, 6);
+        one(&mut random, &mut tally, &sheet, cycles);
+    }
+    tally.print(what);
+}
+
+#[test]
+fn plain_and_short() {
+    short(11, generate::plain, "plain and short");
+}
+
+#[test]
+fn drawn_and_short() {
+    short(12, generate::drawn, "drawn and short");
+}
+
+#[test]
+fn marked_and_short() {
+    let mut random = Random::new(13);
+    let mut tally = Tally::default();
+    for _ in 0..8000 {
+        let names = random.between(1, 3);
+        let shape =
+            Shape { signals: random.between(1, 2), names, nodes: 0, clauses: 1, numbers: 4 };
+        let sheet = generate::marked(&mut random, shape);
+        let cycles = random.between(1, [0, 6, 5, 4][names]);
+        one(&mut random, &mut tally, &sheet, cycles);
+    }
+    tally.print("marked and short");
+}
+
+/// Long traces: many nodes without names, few with them.
+fn long(seed: u64, names: usize, sheets: usize, nodes: usize, cycles: (usize, usize), what: &str) {
+    let mut random = Random::new(seed);
+    let mut tally = Tally::default();
+    for case in 0..sheets {
+        let shape = Shape {
+            signals: random.between(1, 16),
+            names,
+            nodes: random.between(nodes / 2, nodes),
+            clauses: random.between(1, if names < 2 { 3 } else { 1 }),
+            numbers: random.pick(&[5, 20, 70]),
+        };
+        let sheet = DRAWS[case % 3](&mut random, shape);
+        // Half of them of the greatest length.
+        let cycles = if case % 4 < 2 { cycles.1 } else { random.between(cycles.0, cycles.1) };
+        one(&mut random, &mut tally, &sheet, cycles);
+    }
+    tally.print(what);
+}
+
+#[test]
+fn long_without_names() {
+    long(21, 0, 400, 40, (33, 64), "long, no names");
+}
+
+#[test]
+fn long_with_one_name() {
+    long(22, 1, 120, 12, (33, 64), "long, one name");
+}
+
+#[test]
+fn long_with_two_names() {
+    long(23, 2, 40, 10, (16, 24), "long, two names");
+}
+
+#[test]
+fn long_with_three_names() {
+    long(24, 3, 24, 10, (8, 12), "long, three names");
+}
+
+/// Sheets at the limits of kind 1, on short traces.
+#[test]
+fn full() {
+    let mut random = Random::new(31);
+    let mut tally = Tally::default();
+    for case in 0..300 {
+        let shape = Shape {
+            signals: random.pick(&[1, 15, 16]),
+            names: 3,
+            nodes: random.between(60, 64),
+            clauses: random.between(7, 8),
+            numbers: 4,
+        };
+        let sheet = DRAWS[case % 2](&mut random, shape);
+        let cycles = random.between(1, 3);
+        one(&mut random, &mut tally, &sheet, cycles);
+    }
+    tally.print("full");
+}
+
+/// The sheets that need most nodes: every node a drawing, every clause with three parts of three
+/// names.
+#[test]
+fn most_nodes() {
+    let mut tally = Tally::default();
+    let drawings: [[u8; 6]; 4] = [
+        [29, 0x01, 0, 1, 0, 2],
+        [29, 0x22, 0, 0, 255, 255],
+        [27, 7, 0, 0, 0, 0],
+        [28, 0, 0, 1, 0, 0],
+    ];
+    for node in drawings {
+        for kind in 1..=6 {
+            for role in 0..2 {
+                let mut sheet = Sheet::new(1, 3);
+                sheet.nodes = vec![node; 64];
+                let parts = [1, 2, 1, 2, 3, 3][kind as usize - 1];
+                let mut clause = [kind, role, 0, 63, 0, 62, 0, 61, 7, 7, 7];
+                clause[2 + 2 * parts..8].fill(0);
+                clause[8 + parts..].fill(0);
+                sheet.clauses = vec![clause; 8];
+                let mut random = Random::new(32 + kind as u64);
+                for cycles in 1..=3 {
+                    one(&mut random, &mut tally, &sheet, cycles);
+                }
+            }
+        }
+    }
+    tally.print("most nodes");
+}
+
+/// Each sheet on every trace of up to three cycles.
+#[test]
+fn every_short_trace() {
+    let mut random = Random::new(41);
+    let mut tally = Tally::default();
+    for case in 0..250 {
+        let shape = Shape {
+            signals: random.between(1, 2),
+            names: random.below(4),
+            nodes: random.between(3, 16),
+            clauses: random.between(1, 2),
+            numbers: 4,
+        };
+        let sheet = DRAWS[case % 3](&mut random, shape);
+        let translated = compare::translate(&sheet.bytes(), 8192).unwrap();
+        tally.formulas += 1;
+        for cycles in 1..=3 {
+            for word in 0..1u32 << (cycles * shape.signals) {
+                let trace: Vec<u16> = (0..cycles)
+                    .map(|t| (word >> (t * shape.signals)) as u16 & ((1 << shape.signals) - 1))
+                    .collect();
+                translated.agrees(&trace);
+                tally.evaluations += 1;
+            }
+        }
+    }
+    tally.print("every short trace");
+}
+
+/// The formula over all columns of four and five cycles.
+#[test]
+fn every_column() {
+    let mut random = Random::new(42);
+    let mut tally = Tally::default();
+    for case in 0..240 {
+        let names = random.between(1, 3);
+        let shape = Shape {
+            signals: random.between(1, 3),
+            names,
+            nodes: random.between(3, 12),
+            clauses: 1,
+            numbers: 5,
+        };
+        let sheet = DRAWS[case % 3](&mut random, shape);
+        let translated = compare::translate(&sheet.bytes(), 8192).unwrap();
+        tally.formulas += 1;
+        let cycles = random.between(4, [0, 9, 6, 5][names]);
+        let trace = generate::trace(&mut random, shape.signals, cycles);
+        translated.agrees(&trace.cycles);
+        tally.evaluations += 1;
+    }
+    tally.print("every column");
+}
+
+/// Lists of cycles that no stored trace holds: the formula and the requirement still agree.
+#[test]
+fn longer_than_stored() {
+    let mut random = Random::new(43);
+    let mut tally = Tally::default();
+    for case in 0..60 {
+        let shape = Shape {
+            signals: random.between(1, 3),
+            names: 0,
+            nodes: random.between(4, 20),
+            clauses: random.between(1, 2),
+            numbers: 80,
+        };
+        let sheet = DRAWS[case % 3](&mut random, shape);
+        let translated = compare::translate(&sheet.bytes(), 8192).unwrap();
+        tally.formulas += 1;
+        let cycles = random.between(65, 100);
+        let trace = generate::trace(&mut random, shape.signals, cycles);
+        translated.agrees(&trace.cycles);
+        tally.evaluations += 1;
+    }
+    tally.print("longer than stored");
+}
+
+/// Good sheets and traces with one or two fields changed, and odd nodes, cycles and buffers.
+#[test]
+fn damaged_fields() {
+    let mut random = Random::new(51);
+    let mut tally = Tally::default();
+    let mut numbers = [0; 18];
+    for case in 0..40_000 {
+        let shape = Shape {
+            signals: random.between(1, 3),
+            names: random.below(4),
+            nodes: random.between(2, 10),
+            clauses: random.between(1, 2),
+            numbers: 4,
+        };
+        let sheet = DRAWS[case % 2](&mut random, shape).bytes();
+        let cycles = random.between(1, 4);
+        let trace = generate::trace(&mut random, shape.signals, cycles).bytes();
+        let sheet = if case % 4 != 0 { damaged(&mut random, &sheet) } else { sheet };
+        let trace = if case % 4 != 1 { damaged(&mut random, &trace) } else { trace };
+        let words = random.pick(&[0, 64, 4095, 4096, 4096, 4096, 4097]);
+        let verdict = compare::check(&sheet, &trace, words);
+        tally.count(&verdict);
+        if let Err(number) = verdict {
+            numbers[number as usize] += 1;
+        }
+        let node = random.below(shape.nodes + 2);
+        let places = [0; 3].map(|_| random.below(cycles + 1));
+        let rows = random.pick(&[0, 63, 64, 64, 64, 64, 65]);
+        let table = compare::table(&sheet, &trace, node, places, words, rows);
+        tally.tables += 1;
+        if let Err(number @ 16..) = table {
+            numbers[number as usize] += 1;
+        }
+        let out = random.pick(&[0, 8191, 8192, 8192, 8192, 8193]);
+        match compare::translate(&sheet, out) {
+            Ok(_) => tally.formulas += 1,
+            Err(14) => numbers[14] += 1,
+            Err(_) => (),
+        }
+    }
+    tally.print("damaged");
+    compare::report(format!("damaged: refusals 1–17 came {:?} times", &numbers[1..]));
+    assert!(numbers[1..].iter().all(|&count| count > 0), "a number never came");
+}
+
+/// Every byte of a few sheets and traces set to every value.
+#[test]
+fn every_byte() {
+    let mut tally = Tally::default();
+    let mut sheet = Sheet::new(2, 2);
+    let p = sheet.signal(1);
+    let u = sheet.name(0);
+    let both = sheet.and(p, u);
+    let at_both = sheet.point(both);
+    let gap = sheet.gap(0, 1, 0, 1);
+    let count = sheet.scount(p, build::Compare::AtLeast, 1);
+    let row = sheet.chop(at_both, count);
+    let mark = sheet.mark(1);
+    sheet.follows(Role::Commitment, Part(row, 1), Part(gap, 3), Part(mark, 2));
+    let sheet = sheet.bytes();
+    let trace = build::Trace::drawn(&["011", "110"]).bytes();
+    for at in 0..sheet.len() {
+        for value in 0..=255 {
+            let mut changed = sheet.clone();
+            changed[at] = value;
+            tally.count(&compare::check(&changed, &trace, 4096));
+            compare::table(&changed, &trace, 6, [1, 2, 0], 4096, 64).ok();
+            tally.tables += 1;
+            tally.formulas += compare::translate(&changed, 8192).is_ok() as usize;
+        }
+    }
+    for at in 0..trace.len() {
+        for value in 0..=255 {
+            let mut changed = trace.clone();
+            changed[at] = value;
+            tally.count(&compare::check(&sheet, &changed, 4096));
+            compare::table(&sheet, &changed, 6, [1, 2, 0], 4096, 64).ok();
+            tally.tables += 1;
+        }
+    }
+    tally.print("every byte");
+}
+
+/// Runs again what a failure printed: FASUNQIR_SHEET and FASUNQIR_TRACE in hexadecimal.
+#[test]
+#[ignore]
+fn replay() {
+    let bytes = |name: &str| from_hex(&std::env::var(name).unwrap_or_default());
+    let (sheet, trace) = (bytes("FASUNQIR_SHEET"), bytes("FASUNQIR_TRACE"));
+    compare::report(format!("check {:?}", compare::check(&sheet, &trace, 4096)));
+    if let Ok(translated) = compare::translate(&sheet, 8192) {
+        let cycles = stored::trace(&trace, &translated.source);
+        for node in (0..translated.source.nodes.len())
+            .filter(|&i| is_formula(translated.source.nodes[i].op))
+        {
+            compare::table(&sheet, &trace, node, [0; 3], 4096, 64).ok();
+        }
+        if let Ok(cycles) = cycles {
+            if cycles.len() * translated.source.names <= 15 {
+                compare::report(format!("formula {}", translated.agrees(&cycles)));
+            }
+        }
+    }
+}
