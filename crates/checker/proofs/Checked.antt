@@ -24,7 +24,7 @@ use Rattle.stored.specs.Sheet.{headerOf, nodePart, clausePart, nodesOf, storedO
 use Rattle.stored.specs.Trace.{cycleCount, cyclesOf, traceRefusal, traceAnswer, traceNumber}
 use Rattle.stored.specs.Tree.{pick}
 use Rattle.stored.proofs.Tree.{Earlier}
-use Rattle.stored.proofs.Accepted.{Opened, ClauseKept, clauses-kept, accepted-fits, kind-cases, mask-small, open-answer, answer-accepted, trace-opened, cycles-accepted, length-clauses}
+use Rattle.stored.proofs.Accepted.{Opened, ClauseKept, clauses-kept, accepted-fits, kind-cases, mask-small, open-answer, answer-accepted, trace-opened, cycles-accepted, answer-refused, cycles-refused, length-clauses}
 use Rattle.tables.specs.Ready.{Given}
 use Rattle.checker.specs.declared.check.Answer.{Answer}
 use Rattle.checker.specs.declared.check.Answer.the-variants.{Refused}
@@ -32,7 +32,7 @@ use Rattle.checker.specs.Table.{orElse, wordsRefusal, wordsAfter}
 use Rattle.checker.specs.Task.{taskOf}
 use Rattle.checker.specs.Laid.{IsFormula, Formulas}
 use Rattle.checker.specs.Check.{told, checkRefusal, checkAnswer, Sound}
-use Rattle.checker.proofs.Refusals.{sheet-number, sheet-refused, trace-number, trace-refused}
+use Rattle.checker.proofs.Refusals.{sheet-number, trace-number}
 use Rattle.checker.proofs.Opened.{given-opened}
 
 -- ---- the lowest number
@@ -58,7 +58,7 @@ module _ (s t words : List ℕ) where
   unfolding checkRefusal orElse
   check-sheet answer number k read said e =
       let n : number ≡ sheetRefusal s = e ∙ ap sheetNumber read ∙ sheet-number s in
-      let z = sheet-refused s k (sym read ∙ said) in
+      let z = answer-refused s k (sym read ∙ said) .0 in
       refused-as number (n ∙ rw z) (ap (λ (x : ℕ). eqb x 0) n ∙ z)
 
   module _ (h : Header) (accepted : sheetAnswer s ≡ Accepted h) where
@@ -78,7 +78,7 @@ module _ (s t words : List ℕ) where
     check-trace answer number k read said e =
         let turn : traceAnswer (h .signals) t ≡ traceAnswer (headerOf s .signals) t = ap (λ (g : Header). traceAnswer (g .signals) t) (sym same) in
         let n : number ≡ traceRefusal (headerOf s .signals) t = e ∙ ap traceNumber (read ∙ turn) ∙ trace-number (headerOf s .signals) t in
-        let z = trace-refused (headerOf s .signals) t k (sym (read ∙ turn) ∙ said) in
+        let z = cycles-refused (headerOf s .signals) t k (sym (read ∙ turn) ∙ said) .0 in
         refused-as number (n ∙ sym (at-trace ∙ rw z)) (ap (λ (x : ℕ). eqb x 0) n ∙ z)
 
     module _ (n : ℕ) (cycled : traceAnswer (h .signals) t ≡ Cycles n) where

@@ -31,14 +31,6 @@ sheet-number s = go (eqb (sheetRefusal s) 0) refl
     go true e = sym (eqb-true (sheetRefusal s) 0 e)
     go false e = refl
 
-pub sheet-refused : (s : List ℕ) (k : ℕ) → sheetAnswer s ≡ SheetAnswer.Refused k → eqb (sheetRefusal s) 0 ≡ false
-unfolding sheetAnswer pick
-sheet-refused s k h = go (eqb (sheetRefusal s) 0) h
-  where
-    go : (b : Bool) → pick b (Accepted (headerOf s)) (SheetAnswer.Refused (sheetRefusal s)) ≡ SheetAnswer.Refused k → b ≡ false
-    go true q = absurd (let z : _≡_ {A = ℕ} 0 1 = cc in omega arith)
-    go false q = refl
-
 pub trace-number : (s : ℕ) (t : List ℕ) → traceNumber (traceAnswer s t) ≡ traceRefusal s t
 unfolding traceAnswer traceNumber pick
 trace-number s t = go (eqb (traceRefusal s t) 0) refl
@@ -46,14 +38,6 @@ trace-number s t = go (eqb (traceRefusal s t) 0) refl
     go : (b : Bool) → eqb (traceRefusal s t) 0 ≡ b → traceNumber (pick b (Cycles (cycleCount t)) (TraceAnswer.Refused (traceRefusal s t))) ≡ traceRefusal s t
     go true e = sym (eqb-true (traceRefusal s t) 0 e)
     go false e = refl
-
-pub trace-refused : (s : ℕ) (t : List ℕ) (k : ℕ) → traceAnswer s t ≡ TraceAnswer.Refused k → eqb (traceRefusal s t) 0 ≡ false
-unfolding traceAnswer pick
-trace-refused s t k h = go (eqb (traceRefusal s t) 0) h
-  where
-    go : (b : Bool) → pick b (Cycles (cycleCount t)) (TraceAnswer.Refused (traceRefusal s t)) ≡ TraceAnswer.Refused k → b ≡ false
-    go true q = absurd (let z : _≡_ {A = ℕ} 0 1 = cc in omega arith)
-    go false q = refl
 
 or-first : (a b : ℕ) → eqb a 0 ≡ false → orElse a b ≡ a
 unfolding orElse

@@ -11,15 +11,15 @@ use Rattle.stored.specs.declared.TraceAnswer.the-variants.{Cycles}
 use Rattle.stored.specs.Node.{nodeAt}
 use Rattle.stored.specs.Sheet.{headerOf, nodePart, nodesOf, sheetRefusal, sheetAnswer, sheetNumber}
 use Rattle.stored.specs.Trace.{cycleCount, cyclesOf, traceRefusal, traceAnswer, traceNumber}
-use Rattle.stored.proofs.Accepted.{answer-accepted, cycles-accepted}
+use Rattle.stored.proofs.Accepted.{answer-accepted, cycles-accepted, answer-refused, cycles-refused}
 use Rattle.checker.specs.declared.table.TableAnswer.{TableAnswer}
 use Rattle.checker.specs.Table.{placementOf, tableOf, nodeRefusal, answerFor, tableRefusal, tableAnswer, wordsAfter}
-use Rattle.checker.proofs.Refusals.{Refuses, sheet-number, sheet-refused, trace-number, trace-refused, by-sheet, by-trace, by-words, by-node}
+use Rattle.checker.proofs.Refusals.{Refuses, sheet-number, trace-number, by-sheet, by-trace, by-words, by-node}
 
 module _ (s t : List ℕ) (node p0 p1 p2 : ℕ) (words : List ℕ) where
   pub sheet-refuses : (answer : SheetAnswer) (number k : ℕ) → answer ≡ sheetAnswer s → answer ≡ SheetAnswer.Refused k → number ≡ sheetNumber answer → Refuses s t node p0 p1 p2 words number
   sheet-refuses answer number k read told e =
-      by-sheet s t node p0 p1 p2 words number (e ∙ ap sheetNumber read ∙ sheet-number s) (sheet-refused s k (sym read ∙ told))
+      by-sheet s t node p0 p1 p2 words number (e ∙ ap sheetNumber read ∙ sheet-number s) (answer-refused s k (sym read ∙ told) .0)
 
   pub trace-refuses : (h : Header) (answer : TraceAnswer) (number k : ℕ) → sheetAnswer s ≡ Accepted h → answer ≡ traceAnswer (h .signals) t → answer ≡ TraceAnswer.Refused k → number ≡ traceNumber answer
       → Refuses s t node p0 p1 p2 words number
@@ -28,7 +28,7 @@ module _ (s t : List ℕ) (node p0 p1 p2 : ℕ) (words : List ℕ) where
       let same : traceAnswer (h .signals) t ≡ traceAnswer (headerOf s .signals) t = ap (λ (g : Header). traceAnswer (g .signals) t) (sym (taken .1)) in
       by-trace s t node p0 p1 p2 words number (taken .0)
       (e ∙ ap traceNumber (read ∙ same) ∙ trace-number (headerOf s .signals) t)
-      (trace-refused (headerOf s .signals) t k (sym (read ∙ same) ∙ told))
+      (cycles-refused (headerOf s .signals) t k (sym (read ∙ same) ∙ told) .0)
 
   module _ (h : Header) (n : ℕ) (accepted : sheetAnswer s ≡ Accepted h) (cycled : traceAnswer (h .signals) t ≡ Cycles n) where
     none-sheet : sheetRefusal s ≡ 0

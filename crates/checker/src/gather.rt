@@ -3,7 +3,6 @@ use crate::task::choose;
 use rows::cut::shortest;
 use rows::mask::below;
 ghost use mathlib.Core.Path.{_≡_};
-ghost use mathlib.Core.Bool.{cond};
 ghost use Prim.Native.Nat.{_+_, _*_, _<_, _≤_, min, max};
 ghost use lib.ListN.{length};
 ghost use Rattle.semantics.specs.Proposition.{bit};

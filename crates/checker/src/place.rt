@@ -9,7 +9,7 @@ use crate::task::Task;
 use crate::task::choose;
 use tables::fill::refill;
 ghost use mathlib.Core.Path.{_≡_};
-ghost use Prim.Native.Nat.{_-_, _<_, _≤_, min};
+ghost use Prim.Native.Nat.{_-_, _<_};
 ghost use lib.ListN.{length};
 ghost use Rattle.tables.specs.Table.{standing};
 ghost use Rattle.checker.specs.Places.{IsLeast};

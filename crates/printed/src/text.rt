@@ -2,7 +2,7 @@
 ghost use mathlib.Core.Path.{_≡_};
 ghost use Prim.Native.Nat.{_≤_, _<_};
 ghost use lib.ListN.{length, getD};
-ghost use Rattle.printed.specs.Text.{decimalOf, refusedText, glyphOf, rowByte, tableText, textOf};
+ghost use Rattle.printed.specs.Text.{decimalOf, refusedText, glyphOf, rowByte, textOf};
 
 const REFUSED: [u8; 8] = [82, 69, 70, 85, 83, 69, 68, 32];
 

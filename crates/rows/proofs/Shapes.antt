@@ -15,7 +15,7 @@ use Rattle.semantics.proofs.Tests.{and-comm, same, both, and-left, and-right, a
 use Rattle.semantics.proofs.Cycles.{below-cong, every-cong}
 use Rattle.rows.proofs.Bits.{bit-and, bit-not, bit-ones, bit-shifted}
 use Rattle.rows.proofs.Masks.{cut-bit}
-use Rattle.rows.proofs.Rows.{row-or, row-none, word-bit, is-word, row-ext, masked-row}
+use Rattle.rows.proofs.Rows.{row-or, row-none, word-bit, is-word, is-row, row-ext, masked-row}
 
 pub lacking-is : (column b : ℕ) → column < 2 ^ 64
     → bitAnd (2 ^ 64 - 1 - column) (2 ^ 64 - 1 - word 64 (λ t. ltb t b)) ≡ word 64 (λ t. leb b t && not (bit column t))
@@ -74,21 +74,24 @@ unit-is n column b l =
         let q : b ≡ e - 1 = omega arith in
         both (le-leb 1 e (omega arith)) (both (ap (bit column) (sym q) ∙ and-right (eqb e (b + 1)) (bit column b) t) (eq-eqb b (e - 1) q)))
 
-pub mark-is : (n column b : ℕ) → n ≤ 64
-    → bitAnd (row n always b) (bitAnd column (word 64 (eqb b))) ≡ row n (λ b e. eqb b e && bit column b) b
-mark-is n column b l =
-    masked-row n (bitAnd column (word 64 (eqb b))) (λ b e. eqb b e && bit column b) b
-    (λ e k m. here-bit column b e (omega arith) ∙ there e)
-  where
-    there : (e : ℕ) → (bit column e && eqb b e) ≡ (eqb b e && bit column b)
-    there e =
-        same (bit column e && eqb b e) (eqb b e && bit column b)
-        (λ t.
-        let q = and-right (bit column e) (eqb b e) t in
-        both q (ap (bit column) (eqb-true b e q) ∙ and-left (bit column e) (eqb b e) t))
-        (λ t.
-        let q = and-left (eqb b e) (bit column b) t in
-        both (ap (bit column) (sym (eqb-true b e q)) ∙ and-right (eqb b e) (bit column b) t) q)
+pub mark-is : (n column b : ℕ) → n ≤ 64 → b < n → column < 2 ^ 64 → bitAnd column (word 64 (eqb b)) ≡ row n (λ b e. eqb b e && bit column b) b
+mark-is n column b l h small =
+    is-row 64 n (bitAnd column (word 64 (eqb b))) (λ b e. eqb b e && bit column b) b l
+    (lt-of-le-of-lt (and-le-l column (word 64 (eqb b))) small)
+    (λ e m t.
+    let r = sym (here-bit column b e m) ∙ t in
+    let q = and-right (bit column e) (eqb b e) r in
+    let same = eqb-true b e q in
+    record {
+      low = omega arith;
+      high = omega arith;
+      ok = both q (ap (bit column) same ∙ and-left (bit column e) (eqb b e) r);
+    })
+    (λ e s.
+    let high = s .high in
+    let q = and-left (eqb b e) (bit column b) (s .ok) in
+    here-bit column b e (omega arith)
+    ∙ both (ap (bit column) (sym (eqb-true b e q)) ∙ and-right (eqb b e) (bit column b) (s .ok)) q)
 
 -- ---- symbols
 

@@ -74,8 +74,7 @@ pub fn marked(column: u64, b: usize, n: usize) -> u64
     requires { ⌜ (b < n) × (n ≤ 64) ⌝ }
     ensures { λ r. ⌜ r ≡ row n (λ b e. eqb b e && bit column b) b ⌝ }
 {
-    let here = column & only(b);
-    cycles_from(b, n) & here
+    column & only(b)
 }
 
 // A symbol on a signal.

@@ -291,6 +291,23 @@ cycles-accepted s t n e = go (eqb (traceRefusal s t) 0) refl e
     go true p q = (eqb-true (traceRefusal s t) 0 p, (cc))
     go false p q = absurd (let z : _≡_ {A = ℕ} 0 1 = cc in omega arith)
 
+-- a refused sheet or trace has the refusal's number
+pub answer-refused : (s : List ℕ) (k : ℕ) → sheetAnswer s ≡ Refused k → (eqb (sheetRefusal s) 0 ≡ false) × (sheetRefusal s ≡ k)
+unfolding sheetAnswer pick
+answer-refused s k e = go (eqb (sheetRefusal s) 0) refl e
+  where
+    go : (b : Bool) → eqb (sheetRefusal s) 0 ≡ b → pick b (Accepted (headerOf s)) (Refused (sheetRefusal s)) ≡ Refused k → (eqb (sheetRefusal s) 0 ≡ false) × (sheetRefusal s ≡ k)
+    go true p q = absurd (let z : _≡_ {A = ℕ} 0 1 = cc in omega arith)
+    go false p q = (p, (cc))
+
+pub cycles-refused : (s : ℕ) (t : List ℕ) (k : ℕ) → traceAnswer s t ≡ TraceAnswer.Refused k → (eqb (traceRefusal s t) 0 ≡ false) × (traceRefusal s t ≡ k)
+unfolding traceAnswer pick
+cycles-refused s t k e = go (eqb (traceRefusal s t) 0) refl e
+  where
+    go : (b : Bool) → eqb (traceRefusal s t) 0 ≡ b → pick b (Cycles (cycleCount t)) (TraceAnswer.Refused (traceRefusal s t)) ≡ TraceAnswer.Refused k → (eqb (traceRefusal s t) 0 ≡ false) × (traceRefusal s t ≡ k)
+    go true p q = absurd (let z : _≡_ {A = ℕ} 0 1 = cc in omega arith)
+    go false p q = (p, (cc))
+
 pub cycles-count : (t : List ℕ) → length (cyclesOf t) ≡ cycleCount t
 unfolding cyclesOf
 cycles-count t = length-inOrder (cycleCount t) (cycleAt t)

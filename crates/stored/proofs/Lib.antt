@@ -5,7 +5,6 @@ pub mod Tree
 pub mod Reach
 pub mod Accepted
 pub mod Answer
-pub mod Both
 pub mod Written
 pub mod Emitted
 pub mod Examples

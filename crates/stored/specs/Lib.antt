@@ -8,4 +8,3 @@ pub mod Sheet
 pub mod Trace
 pub mod Written
 pub mod Emitted
-pub mod Input

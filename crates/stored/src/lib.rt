@@ -1,7 +1,6 @@
 // Stored sheets and traces: which bytes are one, by which number the others are refused, and what an accepted sheet says.
 pub mod bytes;
 pub mod clauses;
-pub mod input;
 pub mod masks;
 pub mod nodes;
 pub mod sheet;
@@ -43,11 +42,5 @@ pub enum SheetAnswer {
 
 pub enum TraceAnswer {
     Cycles(usize),
-    Refused(usize),
-}
-
-// A sheet and a trace that are both accepted, with the sheet's header and the number of cycles; or the lowest refusal.
-pub enum InputAnswer {
-    Both(Header, usize),
     Refused(usize),
 }

@@ -1,18 +1,19 @@
 -- What an op uses its fields for, over the ops of one family.
 use Prim.Native.Nat.{ℕ, _≤_, _<_}
-use mathlib.Core.Bool.{true, not, _&&_, _||_}
+use mathlib.Core.Bool.{Bool, true, false, not, _&&_, _||_}
 use mathlib.Core.List.{List}
-use mathlib.Core.Path.{_≡_, refl, ap}
+use mathlib.Core.Logic.{inl, inr}
+use mathlib.Core.Path.{_≡_, refl, sym, ap, subst, _∙_}
 use native.Mathlib.Omega.{arith}
-use borrow.Author.Tests.{ltb-true, leb-true, eqb-true, eq-eqb, le-leb}
+use borrow.Author.Tests.{ltb-true, ltb-false, leb-true, eqb-true, eqb-false, eq-eqb, le-leb}
 use lib.Dec.{leb, ltb, eqb}
 use lib.ListN.{List·getD-eq-default}
 use Rattle.semantics.specs.Placement.{Placement}
 use Rattle.stored.specs.declared.Node.{Node}
 use Rattle.stored.specs.Bytes.{everyBelow}
-use Rattle.stored.specs.Node.{requirementSorts, sortOf, aUse, qUse}
-use Rattle.semantics.proofs.Tests.{and-left, and-right}
-use Rattle.tables.specs.Step.{firstColumn, secondColumn}
+use Rattle.stored.specs.Node.{requirementSorts, sortOf, aUse, bUse, qUse}
+use Rattle.semantics.proofs.Tests.{test, and-left, and-right}
+use Rattle.tables.specs.Step.{firstColumn, secondColumn, isPair}
 use Rattle.stored.proofs.Rules.{asked, every-at, every-number}
 
 -- chop, and, or, star
@@ -66,15 +67,44 @@ formula-left k known other =
     left : (s : ℕ) → s ≤ 2 → (s ≡ 0 → ⊥) → (s ≡ 1 → ⊥) → s ≡ 2
     left s h a b = omega arith
 
--- a chop is a formula, over no columns
-pub chop-formula : (k : ℕ) → k ≡ 20 → sortOf requirementSorts k ≡ 2
+-- chop, and, or: formulas over the rows of two formulas, and over no columns
+pub pair-ops : (k : ℕ) → isPair k ≡ true → Ops 20 23 k
+unfolding isPair
+pair-ops k e = record { least = leb-true 20 k (and-left (leb 20 k) (ltb k 23) e); most = ltb-true k 23 (and-right (leb 20 k) (ltb k 23) e) }
+
+pub no-pair : (k : ℕ) → isPair k ≡ false → 20 ≤ k → 23 ≤ k
+unfolding isPair
+no-pair k e l = ltb-false k 23 (ap (λ (t : Bool). t && ltb k 23) (sym (le-leb 20 k l)) ∙ e)
+
+pair-told : (P : ℕ → Type 0) → P 20 → P 21 → P 22 → (k : ℕ) → isPair k ≡ true → P k
+pair-told P p q r k e =
+    let o = pair-ops k e in
+    let least = o .least in
+    let most = o .most in
+    elim (test (eqb k 20)) [
+      | inl s ↦ subst P (sym (eqb-true k 20 s)) p
+      | inr s ↦ elim (test (eqb k 21)) [
+        | inl t ↦ subst P (sym (eqb-true k 21 t)) q
+        | inr t ↦
+            let a = eqb-false k 20 s in
+            let c = eqb-false k 21 t in
+            let last : k ≡ 22 = omega arith in
+            subst P (sym last) r
+      ]
+    ]
+
+pub pair-formula : (k : ℕ) → isPair k ≡ true → sortOf requirementSorts k ≡ 2
 unfolding sortOf
-chop-formula k e = rw e
+pair-formula = pair-told (λ k. sortOf requirementSorts k ≡ 2) refl refl refl
 
-pub chop-first : (k : ℕ) (x : Node) (trace : List ℕ) (n : ℕ) (ν : Placement) (words : List ℕ) → k ≡ 20 → 0 ≡ firstColumn k x trace n ν words
+pub pair-right : (k : ℕ) → isPair k ≡ true → bUse k ≡ 8
+unfolding bUse
+pair-right = pair-told (λ k. bUse k ≡ 8) refl refl refl
+
+pub pair-first : (k : ℕ) (x : Node) (trace : List ℕ) (n : ℕ) (ν : Placement) (words : List ℕ) → isPair k ≡ true → 0 ≡ firstColumn k x trace n ν words
 unfolding firstColumn aUse qUse
-chop-first k x trace n ν words e = rw e
+pair-first k x trace n ν words = pair-told (λ k. 0 ≡ firstColumn k x trace n ν words) refl refl refl k
 
-pub chop-second : (k : ℕ) (x : Node) (n : ℕ) (ν : Placement) → k ≡ 20 → 0 ≡ secondColumn k x n ν
+pub pair-second : (k : ℕ) (x : Node) (n : ℕ) (ν : Placement) → isPair k ≡ true → 0 ≡ secondColumn k x n ν
 unfolding secondColumn qUse
-chop-second k x n ν e = rw e
+pair-second k x n ν = pair-told (λ k. 0 ≡ secondColumn k x n ν) refl refl refl k

@@ -1,6 +1,6 @@
 -- What a fill makes of one node from its operands' words. The laws say that it is the node's table.
 use Prim.Native.Nat.{ℕ, _+_, _-_, _/_, _%_, _^_, _<_}
-use mathlib.Core.Bool.{cond, _&&_}
+use mathlib.Core.Bool.{Bool, cond, _&&_}
 use mathlib.Core.List.{List}
 use mathlib.Core.Path.{_≡_}
 use lib.Bits.{bitAnd, bitOr}
@@ -58,6 +58,10 @@ firstColumn op x trace n ν words =
 
 unfoldable pub secondColumn : ℕ → Node → ℕ → Placement → ℕ
 secondColumn op x n ν = cond (eqb (qUse op) 5) (nameColumn ν n (x .q % 16)) 0
+
+-- chop, and, or: over the rows of two formulas
+unfoldable pub isPair : ℕ → Bool
+isPair op = leb 20 op && ltb op 23
 
 -- row b of a formula node over these columns, from its operands' rows and, of a star, its own later rows
 unfoldable pub rowOf : FormulaOp → Node → ℕ → ℕ → ℕ → List ℕ → ℕ → ℕ → ℕ

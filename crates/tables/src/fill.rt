@@ -1,14 +1,18 @@
 // Fills of the words: every node that reaches a name that moved, in the order of the nodes.
 ghost use mathlib.Core.Path.{_≡_};
+ghost use mathlib.Core.Bool.{true, false};
 ghost use Prim.Native.Nat.{_≤_, _<_};
 ghost use lib.ListN.{length, getD, set};
 ghost use Rattle.stored.specs.Node.{nodeAt, requirementSorts, sortOf, proposition, formula};
 ghost use Rattle.stored.specs.Trace.{cyclesOf};
 ghost use Rattle.tables.specs.Table.{standing, Tables};
-ghost use Rattle.tables.specs.Ready.{Given, Ready, Before, Filled, Kept, changed, movedNames};
+ghost use Rattle.tables.specs.Step.{isPair};
+ghost use Rattle.tables.specs.Ready.{Given, Ready, Before, Filled, Kept, changed};
 use crate::column;
-use crate::line::chop_line;
+use crate::line::drawing_line;
+use crate::line::is_pair;
 use crate::line::line;
+use crate::line::pair_line;
 use stored::nodes::node_at;
 
 // The column of proposition node i, from those of earlier nodes.
@@ -33,9 +37,9 @@ fn put_column(
     words[64 * i] = set;
 }
 
-// The rows of chop node i, the last first, from those of earlier nodes. Most nodes are chops, and their loop has no other op to
-// tell apart.
-fn put_chop(
+// The rows of a chop, an and or an or at node i, the last first, from those of earlier nodes. Most nodes are such, and drawings are
+// what moves with a name: each family has a loop that tells few ops apart.
+fn put_pair(
     nodes: &[u8],
     count: usize,
     trace: &[u8],
@@ -48,19 +52,47 @@ fn put_chop(
 )
     requires { ⌜ Given (now nodes) count (now trace) n p0 p1 p2 (now words) ⌝ }
     requires { ⌜ Before (nodeAt (now nodes)) (cyclesOf (now trace)) n (standing p0 p1 p2) (now words) i ⌝ }
-    requires { ⌜ (i < count) × (nodeAt (now nodes) i .op ≡ 20) ⌝ }
+    requires { ⌜ (i < count) × (isPair (nodeAt (now nodes) i .op) ≡ true) ⌝ }
     ensures { λ r. ⌜ Filled (nodeAt (now (nodes .entry))) (cyclesOf (now (trace .entry))) n (standing p0 p1 p2) i (now (words .entry)) (now (words .exit)) ⌝ }
 {
     let x = node_at(nodes, i);
     let mut b = 64;
     while 0 < b {
         b -= 1;
-        let row = chop_line(x, n, words, i, b);
+        let row = pair_line(x, n, words, i, b);
         words[64 * i + b] = row;
     }
 }
 
-// The same for any other formula node.
+// The same for a symbol, a mark or a gap.
+fn put_drawing(
+    nodes: &[u8],
+    count: usize,
+    trace: &[u8],
+    n: usize,
+    p0: usize,
+    p1: usize,
+    p2: usize,
+    i: usize,
+    words: &mut [u64],
+)
+    requires { ⌜ Given (now nodes) count (now trace) n p0 p1 p2 (now words) ⌝ }
+    requires { ⌜ Before (nodeAt (now nodes)) (cyclesOf (now trace)) n (standing p0 p1 p2) (now words) i ⌝ }
+    requires { ⌜ (i < count) × (sortOf requirementSorts (nodeAt (now nodes) i .op) ≡ formula) × (27 ≤ nodeAt (now nodes) i .op) ⌝ }
+    ensures { λ r. ⌜ Filled (nodeAt (now (nodes .entry))) (cyclesOf (now (trace .entry))) n (standing p0 p1 p2) i (now (words .entry)) (now (words .exit)) ⌝ }
+{
+    let x = node_at(nodes, i);
+    let first = column::first(x, i, trace, n, p0, p1, p2, words);
+    let second = column::second(x, i, n, p0, p1, p2);
+    let mut b = 64;
+    while 0 < b {
+        b -= 1;
+        let row = drawing_line(x, n, first, second, words, i, b);
+        words[64 * i + b] = row;
+    }
+}
+
+// The same for a bracket, a star or a count.
 fn put_rows(
     nodes: &[u8],
     count: usize,
@@ -74,7 +106,8 @@ fn put_rows(
 )
     requires { ⌜ Given (now nodes) count (now trace) n p0 p1 p2 (now words) ⌝ }
     requires { ⌜ Before (nodeAt (now nodes)) (cyclesOf (now trace)) n (standing p0 p1 p2) (now words) i ⌝ }
-    requires { ⌜ (i < count) × (sortOf requirementSorts (nodeAt (now nodes) i .op) ≡ formula) × (nodeAt (now nodes) i .op ≡ 20 → ⊥) ⌝ }
+    requires { ⌜ (i < count) × (sortOf requirementSorts (nodeAt (now nodes) i .op) ≡ formula) ⌝ }
+    requires { ⌜ (nodeAt (now nodes) i .op < 27) × (isPair (nodeAt (now nodes) i .op) ≡ false) ⌝ }
     ensures { λ r. ⌜ Filled (nodeAt (now (nodes .entry))) (cyclesOf (now (trace .entry))) n (standing p0 p1 p2) i (now (words .entry)) (now (words .exit)) ⌝ }
 {
     let x = node_at(nodes, i);
@@ -107,15 +140,19 @@ fn put_node(
 {
     let x = node_at(nodes, i);
     let op = x.op;
-    if op == 20 {
-        put_chop(nodes, count, trace, n, p0, p1, p2, i, words);
+    if is_pair(op) {
+        put_pair(nodes, count, trace, n, p0, p1, p2, i, words);
         return;
     }
     let sort = stored::nodes::sort_of(op);
     if sort == 1 {
         put_column(nodes, count, trace, n, p0, p1, p2, i, words);
-    } else {
+        return;
+    }
+    if op < 27 {
         put_rows(nodes, count, trace, n, p0, p1, p2, i, words);
+    } else {
+        put_drawing(nodes, count, trace, n, p0, p1, p2, i, words);
     }
 }
 

@@ -1,18 +1,17 @@
 // Row b of a formula node, from the columns that it is over and its operands' rows in the words.
 ghost use mathlib.Core.Path.{_≡_};
+ghost use mathlib.Core.Bool.{true, false};
 ghost use Prim.Native.Nat.{_+_, _*_, _≤_, _<_};
 ghost use lib.ListN.{length};
 ghost use Rattle.rows.specs.Symbols as symbols;
 ghost use Rattle.stored.specs.Tree.{comparisonOf, symbolOf, formulaOp};
-ghost use Rattle.tables.specs.Step.{Usable, rowOf, lineOf};
+ghost use Rattle.tables.specs.Step.{Usable, isPair, rowOf, lineOf};
 use crate::words::joined_at;
 use crate::words::row_at;
 use crate::words::starred_at;
 use rows::count;
 use rows::count::Comparison;
 use rows::gap::gap;
-use rows::join::join;
-use rows::join::star_row;
 use rows::shape;
 use rows::shape::Symbol;
 use stored::Node;
@@ -67,8 +66,8 @@ fn shape_row(x: Node, n: usize, first: u64, second: u64, words: &[u64], own: usi
     }
 }
 
-// And, or, star.
-fn joined_row(
+// Row b of a star.
+fn starred_row(
     x: Node,
     n: usize,
     first: u64,
@@ -78,17 +77,11 @@ fn joined_row(
     b: usize,
 ) -> u64
     requires { ⌜ Usable x own ⌝ }
-    requires { ⌜ (21 ≤ x .op) × (x .op < 24) × (b < 64) × (64 * own + 64 ≤ length (now words)) ⌝ }
+    requires { ⌜ (x .op ≡ 23) × (b < 64) × (64 * own + 64 ≤ length (now words)) ⌝ }
     ensures { λ r. ⌜ r ≡ rowOf (formulaOp (x .op)) x n first second (now (words .entry)) own b ⌝ }
 {
-    let op = x.op;
-    let other = x.b;
     let left = row_at(words, x.a, b);
-    match op {
-        21 => left & row_at(words, other, b),
-        22 => left | row_at(words, other, b),
-        _ => starred_at(left, words, own, b),
-    }
+    starred_at(left, words, own, b)
 }
 
 // slen, scount and sdur.
@@ -107,8 +100,34 @@ fn count_row(x: Node, n: usize, first: u64, second: u64, words: &[u64], own: usi
     }
 }
 
-// A symbol, a mark and a gap.
-fn drawing_row(
+// Chop, and, or.
+pub fn is_pair(op: usize) -> bool
+    ensures { λ r. ⌜ r ≡ isPair op ⌝ }
+{
+    (20 <= op) & (op < 23)
+}
+
+// Row b of a chop, an and or an or, 0 past the last cycle.
+pub fn pair_line(x: Node, n: usize, words: &[u64], own: usize, b: usize) -> u64
+    requires { ⌜ Usable x own ⌝ }
+    requires { ⌜ (isPair (x .op) ≡ true) × (n ≤ 64) × (64 * own + 64 ≤ length (now words)) ⌝ }
+    ensures { λ r. ⌜ r ≡ lineOf (formulaOp (x .op)) x n 0 0 (now (words .entry)) own b ⌝ }
+{
+    if n <= b {
+        return 0;
+    }
+    let op = x.op;
+    let other = x.b;
+    let left = row_at(words, x.a, b);
+    match op {
+        20 => joined_at(left, words, other),
+        21 => left & row_at(words, other, b),
+        _ => left | row_at(words, other, b),
+    }
+}
+
+// Row b of a symbol, a mark or a gap, 0 past the last cycle.
+pub fn drawing_line(
     x: Node,
     n: usize,
     first: u64,
@@ -118,9 +137,12 @@ fn drawing_row(
     b: usize,
 ) -> u64
     requires { ⌜ Usable x own ⌝ }
-    requires { ⌜ (27 ≤ x .op) × (x .op < 30) × (b < n) × (n ≤ 64) ⌝ }
-    ensures { λ r. ⌜ r ≡ rowOf (formulaOp (x .op)) x n first second (now (words .entry)) own b ⌝ }
+    requires { ⌜ (27 ≤ x .op) × (x .op < 30) × (n ≤ 64) ⌝ }
+    ensures { λ r. ⌜ r ≡ lineOf (formulaOp (x .op)) x n first second (now (words .entry)) own b ⌝ }
 {
+    if n <= b {
+        return 0;
+    }
     let op = x.op;
     let fewest = x.a;
     let most = x.b;
@@ -131,23 +153,10 @@ fn drawing_row(
     }
 }
 
-// Row b of a chop, 0 past the last cycle.
-pub fn chop_line(x: Node, n: usize, words: &[u64], own: usize, b: usize) -> u64
-    requires { ⌜ Usable x own ⌝ }
-    requires { ⌜ (x .op ≡ 20) × (n ≤ 64) × (64 * own + 64 ≤ length (now words)) ⌝ }
-    ensures { λ r. ⌜ r ≡ lineOf (formulaOp (x .op)) x n 0 0 (now (words .entry)) own b ⌝ }
-{
-    if n <= b {
-        return 0;
-    }
-    let left = row_at(words, x.a, b);
-    joined_at(left, words, x.b)
-}
-
-// Row b of any other formula, 0 past the last cycle.
+// Row b of a bracket, a star or a count, 0 past the last cycle.
 pub fn line(x: Node, n: usize, first: u64, second: u64, words: &[u64], own: usize, b: usize) -> u64
     requires { ⌜ Usable x own ⌝ }
-    requires { ⌜ (16 ≤ x .op) × (x .op < 30) × (x .op ≡ 20 → ⊥) × (n ≤ 64) × (64 * own + 64 ≤ length (now words)) ⌝ }
+    requires { ⌜ (16 ≤ x .op) × (x .op < 27) × (isPair (x .op) ≡ false) × (n ≤ 64) × (64 * own + 64 ≤ length (now words)) ⌝ }
     ensures { λ r. ⌜ r ≡ lineOf (formulaOp (x .op)) x n first second (now (words .entry)) own b ⌝ }
 {
     let op = x.op;
@@ -158,10 +167,7 @@ pub fn line(x: Node, n: usize, first: u64, second: u64, words: &[u64], own: usiz
         return shape_row(x, n, first, second, words, own, b);
     }
     if op < 24 {
-        return joined_row(x, n, first, second, words, own, b);
+        return starred_row(x, n, first, second, words, own, b);
     }
-    if op < 27 {
-        return count_row(x, n, first, second, words, own, b);
-    }
-    drawing_row(x, n, first, second, words, own, b)
+    count_row(x, n, first, second, words, own, b)
 }

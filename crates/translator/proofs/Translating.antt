@@ -26,8 +26,7 @@ use Rattle.stored.proofs.Rules.{every-all}
 use Rattle.stored.proofs.Tree.{formula-agree}
 use Rattle.stored.proofs.Written.{header-length, header-back, header-byte, header-read, header-rest, nodes-in, taken-byte, taken-header, taken-node}
 use Rattle.stored.proofs.Emitted.{emitted-made}
-use Rattle.stored.proofs.Accepted.{Opened, length-nodes, length-clauses, accepted-fits, answer-accepted}
-use Rattle.stored.proofs.Both.{answer-refused}
+use Rattle.stored.proofs.Accepted.{Opened, length-nodes, length-clauses, accepted-fits, answer-accepted, answer-refused}
 use Rattle.translator.specs.declared.TranslateAnswer.{TranslateAnswer}
 use Rattle.translator.specs.declared.TranslateAnswer.the-variants.{Written, Refused}
 use Rattle.translator.specs.Answer.{translateRefusal, translateAnswer, translateNumber, writtenLength}

@@ -2,7 +2,6 @@
 use stored::Node;
 use stored::bytes;
 use stored::writer;
-ghost use mathlib.Core.Path.{_≡_};
 ghost use Prim.Native.Nat.{_<_};
 ghost use Rattle.semantics.specs.Proposition.{signal, name, negated};
 ghost use Rattle.semantics.specs.Formula.{point, stretch, unit, chop, conjunction, disjunction, slen, scount, negation, forSome};

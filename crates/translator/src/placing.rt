@@ -2,7 +2,7 @@
 use crate::node;
 ghost use mathlib.Core.Bool.{true};
 ghost use mathlib.Core.Path.{_≡_};
-ghost use Prim.Native.Nat.{_+_, _*_, _^_, _≤_, _<_};
+ghost use Prim.Native.Nat.{_+_, _*_, _≤_, _<_};
 ghost use Rattle.semantics.specs.Proposition.{bit};
 ghost use Rattle.semantics.specs.Placement.{noNames};
 ghost use Rattle.semantics.specs.Translation.{placedName, placed, once};

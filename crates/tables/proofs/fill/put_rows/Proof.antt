@@ -1,5 +1,5 @@
 -- `tables::fill::put_rows` meets its contract.
-use mathlib.Core.Path.{_≡_, refl, sym, _∙_, ap}
+use mathlib.Core.Path.{_≡_, refl, _∙_, ap}
 use native.Mathlib.Omega.{arith}
 use Prim.Native.Nat.{_-_, _≤_}
 use lib.ListN.{length, length-set}
@@ -8,7 +8,7 @@ use Rattle.stored.specs.Node.{nodeAt}
 use Rattle.stored.specs.Trace.{cyclesOf}
 use Rattle.stored.specs.Tree.{formulaOp}
 use Rattle.tables.specs.Table.{standing}
-use Rattle.tables.specs.Step.{firstColumn, secondColumn, lineOf}
+use Rattle.tables.specs.Step.{firstColumn, secondColumn, isPair, lineOf}
 use Rattle.tables.proofs.Nodes.{formula-read}
 use Rattle.tables.proofs.Fills.{Partly, partly-none, partly-more, partly-all, before-kept, line-law}
 use Rattle.tables.proofs.fill.put_rows.Statement.{statement}
@@ -27,7 +27,7 @@ first-requires : tie.Need-first-requires Inv-loop μ-loop
 first-requires c κs =
     let a = c .before .before .before .before .before .args in
     let g = c .before .before .before .before .before .pre .0 in
-    let s = c .before .before .before .before .before .pre .1 .1 .1 in
+    let s = c .before .before .before .before .before .pre .1 .1 .0 .1 in
     let t = formula-read g (a .i) (c .before .node-at .result) (omega arith) (c .before .node-at .ensures) s in
     (t .0, (omega (arith, g)))
 
@@ -35,7 +35,7 @@ second-requires : tie.Need-second-requires Inv-loop μ-loop
 second-requires c κs =
     let a = c .before .before .before .before .before .before .args in
     let g = c .before .before .before .before .before .before .pre .0 in
-    let s = c .before .before .before .before .before .before .pre .1 .1 .1 in
+    let s = c .before .before .before .before .before .before .pre .1 .1 .0 .1 in
     let t = formula-read g (a .i) (c .before .before .node-at .result) (omega arith) (c .before .before .node-at .ensures) s in
     (t .0, (omega (arith, g)))
 
@@ -51,11 +51,11 @@ line-requires : tie.Need-line-requires Inv-loop μ-loop
 line-requires c κs =
     let a = c .before .before .before .before .before .before .before .before .before .before .args in
     let g = c .before .before .before .before .before .before .before .before .before .before .pre .0 in
-    let s = c .before .before .before .before .before .before .before .before .before .before .pre .1 .1 .1 in
-    let q = c .before .before .before .before .before .before .before .before .before .before .pre .1 .1 .2 in
+    let s = c .before .before .before .before .before .before .before .before .before .before .pre .1 .1 .0 .1 in
     let node = c .before .before .before .before .before .before .node-at .ensures in
     let t = formula-read g (a .i) (c .before .before .before .before .before .before .node-at .result) (omega arith) node s in
-    (t .0, ((omega (arith, t .1)), (omega (arith, t .1)), (λ e. q (ap (λ (x : Node). x .op) (sym node) ∙ e)), (omega (arith, g)), (omega (arith, g, c .before .before .loop .inv .1))))
+    let same = ap (λ (x : Node). x .op) node in
+    (t .0, ((omega (arith, t .1)), (omega (arith, c .before .before .before .before .before .before .before .before .before .before .pre .1 .1 .1 .0, same)), (ap isPair same ∙ c .before .before .before .before .before .before .before .before .before .before .pre .1 .1 .1 .1), (omega (arith, g)), (omega (arith, g, c .before .before .loop .inv .1))))
 
 mul-words : tie.Need-mul-words Inv-loop μ-loop
 mul-words c = omega (arith, c .before .before .before .before .before .before .before .before .before .before .before .pre .0)
@@ -77,9 +77,9 @@ loop-again c =
     let a = c .before .before .before .before .before .before .before .before .before .before .before .args in
     let g = c .before .before .before .before .before .before .before .before .before .before .before .pre .0 in
     let before = c .before .before .before .before .before .before .before .before .before .before .before .pre .1 .0 in
-    let s = c .before .before .before .before .before .before .before .before .before .before .before .pre .1 .1 .1 in
+    let s = c .before .before .before .before .before .before .before .before .before .before .before .pre .1 .1 .0 .1 in
     let at = c .before .before .before .loop in
-    let h = c .before .before .before .before .before .before .before .before .before .before .before .pre .1 .1 .0 in
+    let h = c .before .before .before .before .before .before .before .before .before .before .before .pre .1 .1 .0 .0 in
     let positive = c .before .before .loop-test .taken in
     let e = c .before .before .before .before .before .before .before .node-at .ensures in
     let first = c .before .before .before .before .before .first in
@@ -106,7 +106,7 @@ returns c =
     let a = c .before .before .before .before .before .before .before .before .before .args in
     let g = c .before .before .before .before .before .before .before .before .before .pre .0 in
     let before = c .before .before .before .before .before .before .before .before .before .pre .1 .0 in
-    let s = c .before .before .before .before .before .before .before .before .before .pre .1 .1 .1 in
+    let s = c .before .before .before .before .before .before .before .before .before .pre .1 .1 .0 .1 in
     let at = c .before .loop in
     let none : at .b ≡ 0 = omega arith in
     partly-all (a .i) (at .b) (a .words .now) (at .words) none s (at .inv .2)

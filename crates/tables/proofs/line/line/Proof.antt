@@ -3,6 +3,7 @@ use native.Mathlib.Omega.{arith}
 use borrow.Author.Needs.{needs}
 use Rattle.stored.specs.Tree.{formulaOp}
 use Rattle.tables.proofs.Rows.{line-inside, line-past}
+use Rattle.tables.proofs.Uses.{no-pair}
 use Rattle.tables.proofs.line.line.Statement.{statement}
 use Rattle.tables.proofs.line.line.Tie as tie
 
@@ -19,29 +20,24 @@ returns-2 c =
     let a = c .before .before .before .before .args in
     line-inside (formulaOp (a .x .op)) (a .x) (a .n) (a .first) (a .second) (a .words .now) (a .own) (a .b) _ (omega arith) (c .shape-row .ensures)
 
-joined-row-requires : tie.Need-joined-row-requires
-joined-row-requires c κs = (c .before .before .before .before .pre .0, omega arith)
+starred-row-requires : tie.Need-starred-row-requires
+starred-row-requires c κs =
+    let q = c .before .before .before .before .pre in
+    let last = no-pair (c .before .before .before .before .args .x .op) (q .1 .2) (omega (arith, c .before .if2 .left)) in
+    (q .0, ((omega (arith, last, c .if3 .taken)), (omega (arith, q .1 .3, c .before .before .if1 .left)), (q .1 .4)))
 
 returns-3 : tie.Need-returns-3
 returns-3 c =
     let a = c .before .before .before .before .before .args in
-    line-inside (formulaOp (a .x .op)) (a .x) (a .n) (a .first) (a .second) (a .words .now) (a .own) (a .b) _ (omega arith) (c .joined-row .ensures)
+    line-inside (formulaOp (a .x .op)) (a .x) (a .n) (a .first) (a .second) (a .words .now) (a .own) (a .b) _ (omega arith) (c .starred-row .ensures)
 
 count-row-requires : tie.Need-count-row-requires
-count-row-requires c κs = (c .before .before .before .before .before .pre .0, omega arith)
+count-row-requires c κs = (c .before .before .before .before .pre .0, omega arith)
 
 returns-4 : tie.Need-returns-4
 returns-4 c =
-    let a = c .before .before .before .before .before .before .args in
+    let a = c .before .before .before .before .before .args in
     line-inside (formulaOp (a .x .op)) (a .x) (a .n) (a .first) (a .second) (a .words .now) (a .own) (a .b) _ (omega arith) (c .count-row .ensures)
-
-drawing-row-requires : tie.Need-drawing-row-requires
-drawing-row-requires c κs = (c .before .before .before .before .before .pre .0, omega arith)
-
-returns-5 : tie.Need-returns-5
-returns-5 c =
-    let a = c .before .before .before .before .before .before .args in
-    line-inside (formulaOp (a .x .op)) (a .x) (a .n) (a .first) (a .second) (a .words .now) (a .own) (a .b) _ (omega arith) (c .drawing-row .ensures)
 
 pub line-spec : {M : Type 1} → statement M
 line-spec =
@@ -50,9 +46,7 @@ line-spec =
     returns
     shape-row-requires
     returns-2
-    joined-row-requires
+    starred-row-requires
     returns-3
     count-row-requires
-    returns-4
-    drawing-row-requires
-    returns-5)
+    returns-4)
