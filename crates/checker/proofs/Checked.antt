@@ -29,9 +29,10 @@ use Rattle.tables.specs.Ready.{Given}
 use Rattle.checker.specs.declared.check.Answer.{Answer}
 use Rattle.checker.specs.declared.check.Answer.the-variants.{Refused}
 use Rattle.checker.specs.Table.{orElse, wordsRefusal, wordsAfter}
-use Rattle.checker.specs.Task.{taskOf}
-use Rattle.checker.specs.Laid.{IsFormula, Formulas}
-use Rattle.checker.specs.Check.{told, checkRefusal, checkAnswer, Sound}
+use Rattle.places.specs.Task.{taskOf}
+use Rattle.places.specs.Laid.{IsFormula, Formulas}
+use Rattle.checker.specs.Check.{told, checkRefusal, checkAnswer}
+use Rattle.checker.specs.Clauses.{Sound}
 use Rattle.checker.proofs.Refusals.{sheet-number, trace-number}
 use Rattle.checker.proofs.Opened.{given-opened}
 

@@ -13,12 +13,12 @@ use Rattle.stored.specs.Clause.{clauseOf}
 use Rattle.stored.specs.Trace.{cyclesOf}
 use Rattle.stored.proofs.Accepted.{cycles-count}
 use Rattle.tables.specs.Table.{standing}
-use Rattle.checker.specs.declared.task.Task.{Task}
-use Rattle.checker.specs.Places.{numbered, IsLeast}
-use Rattle.checker.specs.Task.{taskOf, missedTask}
-use Rattle.checker.specs.Laid.{Laid, missedOn, over0, over1, over2}
-use Rattle.checker.specs.Check.{Sound}
-use Rattle.checker.proofs.Tasks.{task-least}
+use Rattle.places.specs.declared.task.Task.{Task}
+use Rattle.places.specs.Places.{numbered, IsLeast}
+use Rattle.places.specs.Task.{taskOf, missedTask}
+use Rattle.places.specs.Laid.{Laid, missedOn, over0, over1, over2}
+use Rattle.checker.specs.Clauses.{Sound}
+use Rattle.places.proofs.Tasks.{task-least}
 
 pub clause-least : {nodes trace reach stood words : List ℕ} {count n : ℕ} (d : StoredClause) (task : Task) (r : ℕ) → task ≡ taskOf d
     → Laid nodes count trace n reach stood words → Sound nodes count d

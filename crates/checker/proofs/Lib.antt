@@ -1,11 +1,3 @@
-pub mod Outside
-pub mod Places
-pub mod Found
-pub mod Searching
-pub mod Gathered
-pub mod Loops
-pub mod Tasks
-pub mod Laying
 pub mod Refusals
 pub mod Opened
 pub mod Copies

@@ -18,9 +18,10 @@ use Rattle.stored.specs.declared.StoredClause.{StoredClause}
 use Rattle.stored.specs.Bytes.{inOrder}
 use Rattle.stored.specs.Clause.{clauseOf, roleOf}
 use Rattle.checker.specs.declared.check.Answer.the-variants.{Excused, Broken, Holds}
-use Rattle.checker.specs.Places.{places, numbered, IsLeast}
-use Rattle.checker.specs.Check.{told, First, placeOf}
-use Rattle.checker.proofs.Places.{fails-least, place-least}
+use Rattle.places.specs.Places.{places, numbered, IsLeast}
+use Rattle.checker.specs.Check.{told}
+use Rattle.checker.specs.Clauses.{First, placeOf}
+use Rattle.places.proofs.Places.{fails-least, place-least}
 
 -- ---- the first failing clause of a list in order
 excused-none : (from n : ℕ) (f : ℕ → Clause) (σ : Trace) (v : semantics.Verdict) → ((k : ℕ) → k < n → failsAs assumption σ (f k) ≡ false)

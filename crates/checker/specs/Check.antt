@@ -1,43 +1,21 @@
 -- Document 01, "Verdicts and tables": the check, its answer and its refusals 1 to 13 and 15.
-use Prim.Native.Nat.{ℕ, _/_, _%_, _^_, _≤_, _<_}
-use mathlib.Core.Bool.{true, false}
+use Prim.Native.Nat.{ℕ}
 use mathlib.Core.List.{List}
-use mathlib.Core.Path.{_≡_}
 use lib.Dec.{eqb}
-use lib.ListN.{length}
-use Rattle.semantics.specs.Proposition.{Trace}
-use Rattle.semantics.specs.Clause.{Role, Clause, breaks}
-use Rattle.semantics.specs.Reach.{clauseFits}
 use Rattle.semantics.specs.Verdict as semantics
-use Rattle.semantics.specs.Verdict.{failsAs, verdict}
-use Rattle.stored.specs.declared.StoredClause.{StoredClause}
-use Rattle.stored.specs.Node.{nodeAt}
-use Rattle.stored.specs.Clause.{clauseOf}
+use Rattle.semantics.specs.Verdict.{verdict}
 use Rattle.stored.specs.Sheet.{headerOf, sheetRefusal, clausesOf}
 use Rattle.stored.specs.Trace.{cyclesOf, traceRefusal}
 use Rattle.stored.specs.Tree.{pick}
-use Rattle.checker.specs.declared.check.Place.{Place}
 use Rattle.checker.specs.declared.check.Answer.{Answer}
 use Rattle.checker.specs.declared.check.Answer.the-variants.{Refused, Excused, Broken, Holds}
-use Rattle.checker.specs.declared.check.Failing.{Failing}
-use Rattle.checker.specs.declared.check.Failing.the-variants.{At, Nothing}
-use Rattle.checker.specs.Places.{places, numbered, IsLeast}
 use Rattle.checker.specs.Table.{orElse, wordsRefusal}
-use Rattle.checker.specs.Task.{taskOf}
-use Rattle.checker.specs.Laid.{Formulas}
 
 -- what each case of an answer says: the document's verdict, with its clause or its place
 unfoldable pub told : semantics.Verdict → Answer
 told (semantics.Excused clause) = Excused clause
 told (semantics.Broken p) = Broken (record { clause = p .clause; i = p .i; j = p .j; k = p .k })
 told semantics.Holds = Holds
-
--- an answer's refusal number, 0 for a verdict
-unfoldable pub answerNumber : Answer → ℕ
-answerNumber (Refused number) = number
-answerNumber (Excused clause) = 0
-answerNumber (Broken p) = 0
-answerNumber Holds = 0
 
 -- the lowest number that applies, or 0
 unfoldable pub checkRefusal : List ℕ → List ℕ → List ℕ → ℕ
@@ -47,36 +25,3 @@ checkRefusal s t words = orElse (sheetRefusal s) (orElse (traceRefusal (headerOf
 unfoldable pub checkAnswer : List ℕ → List ℕ → List ℕ → Answer
 checkAnswer s t words =
     pick (eqb (checkRefusal s t words) 0) (told (verdict (clausesOf s) (cyclesOf t))) (Refused (checkRefusal s t words))
-
--- a stored clause that the check takes
-pub record Sound (nodes : List ℕ) (count : ℕ) (d : StoredClause) : Type 0 where
-  pub kind-least : 1 ≤ d .kind
-  pub kind-most : d .kind ≤ 6
-  pub role-most : d .role ≤ 1
-  pub first-mask : d .mask1 < 2 ^ 64
-  pub second-mask : d .mask2 < 2 ^ 64
-  pub third-mask : d .mask3 < 2 ^ 64
-  pub formulas : Formulas nodes count (taskOf d)
-  pub fits : clauseFits (clauseOf (nodeAt nodes) d) ≡ true
-
--- the number of the clause's first broken place if it has the role and fails, else `places`
-pub record PlaceIs (r : Role) (c : Clause) (σ : Trace) (place : ℕ) : Type 0 where
-  pub none : places ≤ place → failsAs r σ c ≡ false
-  pub some : place < places → failsAs r σ c ≡ true
-  pub least : place < places → IsLeast (numbered (length σ) (breaks c σ)) place
-
--- the first of c clauses that fails in its role, with the number of its first broken place
-pub record First (r : Role) (f : ℕ → Clause) (c : ℕ) (σ : Trace) (k place : ℕ) : Type 0 where
-  pub below : k < c
-  pub before : (j : ℕ) → j < k → failsAs r σ (f j) ≡ false
-  pub fails : failsAs r σ (f k) ≡ true
-  pub least : IsLeast (numbered (length σ) (breaks (f k) σ)) place
-  pub found : place < places
-
-abbrev pub FailingIs : Role → (ℕ → Clause) → ℕ → Trace → Failing → Type 0
-FailingIs r f c σ (At k place) = First r f c σ k place
-FailingIs r f c σ Nothing = (k : ℕ) → k < c → failsAs r σ (f k) ≡ false
-
--- the place with a number
-unfoldable pub placeOf : ℕ → ℕ → Place
-placeOf clause number = record { clause = clause; i = number / 4096; j = number / 64 % 64; k = number % 64 }

@@ -1,10 +1,4 @@
-pub mod Search
-pub mod Places
-pub mod Rows
-pub mod Gather
-pub mod Loops
-pub mod Task
-pub mod Laid
 pub mod Table
 pub mod Check
+pub mod Clauses
 pub mod Small

@@ -1,7 +1,7 @@
 // The check: the verdict of a sheet on a trace.
-use crate::place::places0;
-use crate::search::PLACES;
-use crate::task::task_of;
+use places::place::places0;
+use places::search::PLACES;
+use places::task::task_of;
 use stored::SheetAnswer;
 use stored::TraceAnswer;
 use stored::clauses::stored_at;
@@ -24,10 +24,11 @@ ghost use Rattle.stored.specs.Clause.{storedAt, clauseOf, roleOf};
 ghost use Rattle.stored.specs.Trace.{cyclesOf};
 ghost use Rattle.semantics.specs.Verdict.{verdict};
 ghost use Rattle.tables.specs.Ready.{Given};
-ghost use Rattle.checker.specs.Places.{numbered, IsLeast};
-ghost use Rattle.checker.specs.Laid.{Laid};
+ghost use Rattle.places.specs.Places.{numbered, IsLeast};
+ghost use Rattle.places.specs.Laid.{Laid};
 ghost use Rattle.checker.specs.Table.{wordsAfter};
-ghost use Rattle.checker.specs.Check.{Sound, PlaceIs, FailingIs, placeOf, told, checkAnswer, checkRefusal};
+ghost use Rattle.checker.specs.Check.{told, checkAnswer, checkRefusal};
+ghost use Rattle.checker.specs.Clauses.{Sound, PlaceIs, FailingIs, placeOf};
 
 // A clause's number and its three cycles.
 pub struct Place {

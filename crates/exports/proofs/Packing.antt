@@ -19,7 +19,7 @@ use Rattle.checker.specs.declared.check.Place.{Place}
 use Rattle.translator.specs.declared.TranslateAnswer.{TranslateAnswer}
 use Rattle.translator.specs.declared.TranslateAnswer.the-variants as formula
 use Rattle.translator.specs.Answer.{translateRefusal, translateNumber, writtenLength}
-use Rattle.translator.specs.Bound.{drawingAt, drawings, nodeBound}
+use Rattle.emission.specs.Bound.{drawingAt, drawings, nodeBound}
 use Rattle.translator.specs.Translated.{Translated}
 use Rattle.translator.proofs.Translating.{number-told}
 use Rattle.checker.specs.Small.{SmallPlace}

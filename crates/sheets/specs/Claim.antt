@@ -13,7 +13,7 @@ use Rattle.checker.specs.declared.check.Answer.the-variants.{Refused, Excused, 
 use Rattle.checker.specs.Check.{checkRefusal}
 use Rattle.translator.specs.declared.TranslateAnswer.{TranslateAnswer}
 use Rattle.translator.specs.Answer.{translateRefusal, writtenLength}
-use Rattle.translator.specs.Bound.{nodeBound}
+use Rattle.emission.specs.Bound.{nodeBound}
 
 -- the check says Broken; it says another verdict
 unfoldable pub saysBroken : Answer → Bool

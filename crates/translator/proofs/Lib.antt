@@ -1,11 +1,3 @@
--- Laws of the emission, for this crate and the crates above.
-pub mod Steps
-pub mod Nodes
-pub mod SharedNodes
-pub mod Names
-pub mod Symbols
-pub mod Copied
-pub mod Joining
-pub mod Closed
+-- Laws of the translation, and of what its program prints.
 pub mod Translating
 pub mod Printing

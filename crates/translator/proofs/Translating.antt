@@ -30,13 +30,13 @@ use Rattle.stored.proofs.Accepted.{Opened, length-nodes, length-clauses, accept
 use Rattle.translator.specs.declared.TranslateAnswer.{TranslateAnswer}
 use Rattle.translator.specs.declared.TranslateAnswer.the-variants.{Written, Refused}
 use Rattle.translator.specs.Answer.{translateRefusal, translateAnswer, translateNumber, writtenLength}
-use Rattle.translator.specs.Bound.{drawings, nodeBound}
+use Rattle.emission.specs.Bound.{drawings, nodeBound}
 use Rattle.translator.specs.Translated.{FormulaOf, Translated}
-use Rattle.translator.specs.Emission.{count, formulaIn, Good, Step, Has, Emits}
-use Rattle.translator.specs.Copying.{copyCosts, NodesIn, ClausesIn, clauseAt, clausesAt, requirementCost}
-use Rattle.translator.proofs.Steps.{steps, operands-same}
-use Rattle.translator.proofs.Joining.{joined-bound}
-use Rattle.translator.proofs.Closed.{translation-closed}
+use Rattle.emission.specs.Emission.{count, formulaIn, Good, Step, Has, Emits}
+use Rattle.emission.specs.Copying.{copyCosts, NodesIn, ClausesIn, clauseAt, clausesAt, requirementCost}
+use Rattle.emission.proofs.Steps.{steps, operands-same}
+use Rattle.emission.proofs.Joining.{joined-bound}
+use Rattle.emission.proofs.Closed.{translation-closed}
 
 -- ---- an empty kind 2 sheet
 module _ (x y : List ℕ) (s m : ℕ) (big : 8192 ≤ length x) (e : y ≡ putHeader x s m 0) where

@@ -9,7 +9,7 @@ use Rattle.stored.specs.Sheet.{headerOf, requirementOf}
 use Rattle.stored.specs.Emitted.{isEmitted, emittedTrue}
 use Rattle.translator.specs.declared.TranslateAnswer.{TranslateAnswer}
 use Rattle.translator.specs.Answer.{translateRefusal, translateAnswer, writtenLength}
-use Rattle.translator.specs.Bound.{nodeBound}
+use Rattle.emission.specs.Bound.{nodeBound}
 
 -- y is an emitted formula for sheet s
 pub record FormulaOf (s y : List ℕ) : Type 0 where

@@ -1,13 +1,8 @@
 // The translator: writes the formula of a sheet's requirement as a kind 2 sheet.
-pub mod clause;
-pub mod copy;
-pub mod drawing;
-pub mod node;
-pub mod placing;
 pub mod print;
-pub mod requirement;
-pub mod shared;
 
+use emission::requirement;
+use emission::shared;
 use stored::SheetAnswer;
 use stored::sheet;
 use stored::writer;

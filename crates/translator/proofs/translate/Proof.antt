@@ -1,4 +1,4 @@
-use Rattle.translator.proofs.Steps.{steps}
+use Rattle.emission.proofs.Steps.{steps}
 use mathlib.Core.Path.{_≡_, sym, _∙_, subst}
 use denote.Ref.{now}
 use Rattle.stored.specs.Sheet.{headerOf, sheetAnswer}

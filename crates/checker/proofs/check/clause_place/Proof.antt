@@ -2,9 +2,9 @@
 use mathlib.Core.Path.{_≡_, sym, ap, subst, _∙_}
 use native.Mathlib.Omega.{arith}
 use Rattle.stored.specs.Clause.{storedAt}
-use Rattle.checker.specs.declared.task.Task.{Task}
-use Rattle.checker.specs.Task.{taskOf}
-use Rattle.checker.specs.Laid.{Formulas}
+use Rattle.places.specs.declared.task.Task.{Task}
+use Rattle.places.specs.Task.{taskOf}
+use Rattle.places.specs.Laid.{Formulas}
 use Rattle.checker.proofs.Clauses.{clause-least}
 use borrow.Author.Needs.{needs}
 use Rattle.checker.proofs.check.clause_place.Statement.{statement}

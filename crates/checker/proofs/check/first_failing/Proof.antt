@@ -8,7 +8,7 @@ use Rattle.semantics.specs.Verdict.{failsAs}
 use Rattle.stored.specs.Node.{nodeAt}
 use Rattle.stored.specs.Clause.{storedAt, clauseOf, roleOf}
 use Rattle.stored.specs.Trace.{cyclesOf}
-use Rattle.checker.specs.Laid.{Laid}
+use Rattle.places.specs.Laid.{Laid}
 use Rattle.checker.proofs.Verdicts.{one-more}
 use borrow.Author.Needs.{needs}
 use Rattle.checker.proofs.check.first_failing.Statement.{statement}

@@ -1,6 +1,6 @@
 -- `checker::check::place_of` meets its contract.
 use mathlib.Core.Path.{refl}
-use Rattle.checker.specs.Check.{placeOf}
+use Rattle.checker.specs.Clauses.{placeOf}
 use Rattle.checker.proofs.check.place_of.Statement.{statement}
 use Rattle.checker.proofs.check.place_of.Tie as tie
 

@@ -6,7 +6,7 @@ use lib.ListN.{replicate}
 use Rattle.tables.specs.Ready.{Ready}
 use Rattle.tables.proofs.Fills.{reach-long}
 use Rattle.tables.proofs.Moves.{kept-none}
-use Rattle.checker.proofs.Laying.{laid-first}
+use Rattle.places.proofs.Laying.{laid-first}
 use borrow.Author.Needs.{needs}
 use Rattle.checker.proofs.check.verdict_of.Statement.{statement}
 use Rattle.checker.proofs.check.verdict_of.Tie as tie

@@ -8,7 +8,7 @@ use Rattle.stored.specs.Clause.{storedAt, clauseOf, roleOf}
 use Rattle.stored.specs.Trace.{cyclesOf}
 use Rattle.checker.specs.declared.check.Answer.the-variants.{Broken}
 use Rattle.checker.specs.declared.check.Failing.{Failing}
-use Rattle.checker.specs.Check.{FailingIs}
+use Rattle.checker.specs.Clauses.{FailingIs}
 use Rattle.checker.proofs.Clauses.{short-trace}
 use Rattle.checker.proofs.Verdicts.{verdict-excused, verdict-broken, verdict-holds}
 use borrow.Author.Needs.{needs}

@@ -1,0 +1,408 @@
+-- A node copied by the map stands for the node of the sheet.
+use Prim.Native.Nat.{ℕ, zero, suc, _+_, _*_, _/_, _%_, _≤_, _<_}
+use mathlib.Core.Bool.{Bool, true, false, not, cond, _&&_, _||_, true≢false, false≢true}
+use mathlib.Core.List.{List}
+use mathlib.Core.Logic.{inl, inr}
+use mathlib.Core.Path.{_≡_, refl, sym, _∙_, ap, ap₂, subst}
+use native.Mathlib.Omega.{arith}
+use borrow.Author.Tests.{leb-true, eqb-true, eqb-false, ne-eqb, eq-eqb, ltb-true}
+use lib.Dec.{leb, ltb, eqb}
+use lib.ListN.{length, getD, set, List·getD-eq-default}
+use lib.Seq.{getD-set-same, getD-set-other}
+use Rattle.semantics.specs.Proposition.{Proposition, negated, bothOf, eitherOf}
+use Rattle.semantics.specs.Formula.{Formula, point, stretch, whole, unit, chop, conjunction, disjunction, star, scount, sdur, negation, forSome, below}
+use Rattle.semantics.specs.Cycles.{countBelow}
+use Rattle.semantics.specs.Translation.{undrawn}
+use Rattle.semantics.proofs.Tests.{test, and-left, and-right, and-intro}
+use Rattle.stored.specs.declared.Node.{Node}
+use Rattle.stored.specs.Bytes.{word, everyBelow}
+use Rattle.stored.specs.Node.{requirementSorts, emittedSorts, sortOf, qUse, aUse, bUse, nodeAt, fieldRight, fieldsRight, operandRight, operandsRight}
+use Rattle.stored.specs.Tree.{comparisonOf, PropositionOp, FormulaOp, propositionOp, formulaOp, propositionOf, propositionAt, formulaOf, formulaAt}
+use Rattle.stored.specs.Reach.{entryOf}
+use Rattle.stored.specs.Sheet.{headerOf}
+use Rattle.stored.specs.Written.{nodeIn, NodeFits}
+use Rattle.stored.proofs.Rules.{every-number}
+use Rattle.stored.proofs.Tree.{proposition-cases, formula-cases, operands, proposition-law, formula-law}
+use Rattle.emission.specs.Bound.{isDrawing, drawingAt}
+use Rattle.emission.specs.Emission.{mostNodes, count, propositionIn, formulaIn, Good, Step, HasProposition, Has, Emits, Addable, Added}
+use Rattle.emission.specs.Copying.{Stands, Mapped, mappedTo, copiedNode, noPropositions, noFormulas, drawingOf, copyCost, copyCosts}
+use Rattle.emission.proofs.Steps.{has-kept, proposition-kept, made-proposition, made-formula}
+use Rattle.emission.proofs.Nodes.{of-formula, of-proposition}
+
+-- ---- sorts
+sameSort : ℕ → ℕ → ℕ → Bool
+sameSort k sort sort′ = leb 27 k && leb k 29 || (eqb sort 0 || eqb sort′ sort)
+
+same-sort : (k : ℕ) → sameSort k (sortOf requirementSorts k) (sortOf emittedSorts k) ≡ true
+unfolding sortOf sameSort everyBelow
+same-sort =
+    every-number 32 (λ k. sameSort k (sortOf requirementSorts k) (sortOf emittedSorts k)) refl
+    (λ k h. ap (λ (z : ℕ). sameSort k z (sortOf emittedSorts k)) (List·getD-eq-default requirementSorts 0 h) ∙ past (leb 27 k && leb k 29))
+  where
+    past : (a : Bool) → (a || true) ≡ true
+    past true = refl
+    past false = refl
+
+-- an op of kind 1 that is no drawing has the same sort in kind 2
+pub sort-copied : (n : Node) → isDrawing n ≡ false → (sortOf requirementSorts (n .op) ≡ 0 → ⊥) → sortOf emittedSorts (n .op) ≡ sortOf requirementSorts (n .op)
+unfolding sameSort isDrawing
+sort-copied n e some =
+    eqb-true _ _ (left (leb 27 (n .op) && leb (n .op) 29) (eqb (sortOf requirementSorts (n .op)) 0) _ e (ne-eqb _ 0 some) (same-sort (n .op)))
+  where
+    left : (a b c : Bool) → a ≡ false → b ≡ false → (a || (b || c)) ≡ true → c ≡ true
+    left true b c p q r = absurd (true≢false p)
+    left false true c p q r = absurd (true≢false q)
+    left false false c p q r = r
+
+-- ---- fields
+data Use (what : ℕ) : Type 0 where
+  asProposition : what ≡ 7 → Use what
+  asFormula : what ≡ 8 → Use what
+  asValue : eqb what 7 ≡ false → eqb what 8 ≡ false → Use what
+
+use-of : (what : ℕ) → Use what
+use-of what =
+    elim (test (eqb what 7)) [
+      | inl e ↦ asProposition (eqb-true what 7 e)
+      | inr e ↦ elim (test (eqb what 8)) [
+        | inl f ↦ asFormula (eqb-true what 8 f)
+        | inr f ↦ asValue e f
+      ]
+    ]
+
+-- an operand that the map gives
+pub record Given (x : ℕ → Node) (y : List ℕ) (map : List ℕ) (what v : ℕ) : Type 0 where
+  pub proposition : what ≡ 7 → HasProposition y (entryOf map v) (propositionAt x v)
+  pub formula : what ≡ 8 → Has y (entryOf map v) (undrawn (formulaAt x v))
+
+module _ (x : ℕ → Node) (y map : List ℕ) (s m v : ℕ) where
+  given-fits : (what : ℕ) → Good y → v < 65536 → Given x y map what v → mappedTo map what v < 65536
+  unfolding mappedTo
+  given-fits what good small h =
+      elim (use-of what) [
+        | asProposition e ↦ rw e (omega (arith, h .proposition e .below, good .few-nodes))
+        | asFormula e ↦ rw e (omega (arith, h .formula e .below, good .few-nodes))
+        | asValue e f ↦ rw (e, f) small
+      ]
+
+  given-right : (what : ℕ) → fieldRight s m what v ≡ true → fieldRight s m what (mappedTo map what v) ≡ true
+  unfolding mappedTo fieldRight
+  given-right what r =
+      elim (use-of what) [
+        | asProposition e ↦ rw e
+        | asFormula e ↦ rw e
+        | asValue e f ↦ ap (λ (w : ℕ). fieldRight s m what w) (value e f) ∙ r
+      ]
+    where
+      value : eqb what 7 ≡ false → eqb what 8 ≡ false → mappedTo map what v ≡ v
+      value e f = rw (e, f)
+
+  given-operand : (what : ℕ) → Given x y map what v → operandRight emittedSorts (nodeIn y) (count y) what (mappedTo map what v) ≡ true
+  unfolding mappedTo operandRight
+  given-operand what h =
+      elim (use-of what) [
+        | asProposition e ↦ rw e (of-proposition (h .proposition e))
+        | asFormula e ↦ rw e (of-formula (h .formula e))
+        | asValue e f ↦ rw (e, f)
+      ]
+
+-- the operands of a node that rule 7 takes
+module _ {x : ℕ → Node} {i : ℕ} {y map : List ℕ} (kept : operandsRight requirementSorts x i ≡ true) (mapped : Mapped x i y map) where
+  pub given-a : Given x y map (aUse (x i .op)) (x i .a)
+  given-a =
+      let o = operands requirementSorts x i kept in
+      record {
+        proposition = λ e. mapped (x i .a) (o .a-proposition e .less) .proposition (o .a-proposition e .sorted);
+        formula = λ e. mapped (x i .a) (o .a-formula e .less) .formula (o .a-formula e .sorted);
+      }
+
+  pub given-b : Given x y map (bUse (x i .op)) (x i .b)
+  given-b =
+      let o = operands requirementSorts x i kept in
+      record {
+        proposition = λ e. mapped (x i .b) (o .b-proposition e .less) .proposition (o .b-proposition e .sorted);
+        formula = λ e. mapped (x i .b) (o .b-formula e .less) .formula (o .b-formula e .sorted);
+      }
+
+-- rule 6, opened
+module _ (s m : ℕ) (n : Node) (right : fieldsRight requirementSorts s m n ≡ true) where
+  pub some-sort : sortOf requirementSorts (n .op) ≡ 0 → ⊥
+  unfolding fieldsRight
+  some-sort e = go (eqb (sortOf requirementSorts (n .op)) 0) (eq-eqb _ 0 e) (and-left (not (eqb (sortOf requirementSorts (n .op)) 0)) _ right)
+    where
+      go : (b : Bool) → b ≡ true → not b ≡ true → ⊥
+      go true p q = true≢false (sym q)
+      go false p q = false≢true p
+
+  pub q-right : fieldRight s m (qUse (n .op)) (n .q) ≡ true
+  unfolding fieldsRight
+  q-right = and-left (fieldRight s m (qUse (n .op)) (n .q)) _ (and-right (not (eqb (sortOf requirementSorts (n .op)) 0)) _ right)
+
+  ab-right : (fieldRight s m (aUse (n .op)) (n .a) && (fieldRight s m (bUse (n .op)) (n .b) && (not (eqb (n .op) 29) || leb (n .a) (n .b)))) ≡ true
+  unfolding fieldsRight
+  ab-right = and-right (fieldRight s m (qUse (n .op)) (n .q)) _ (and-right (not (eqb (sortOf requirementSorts (n .op)) 0)) _ right)
+
+  pub a-right : fieldRight s m (aUse (n .op)) (n .a) ≡ true
+  a-right = and-left (fieldRight s m (aUse (n .op)) (n .a)) _ ab-right
+
+  pub b-right : fieldRight s m (bUse (n .op)) (n .b) ≡ true
+  b-right = and-left (fieldRight s m (bUse (n .op)) (n .b)) _ (and-right (fieldRight s m (aUse (n .op)) (n .a)) _ ab-right)
+
+-- ---- the copy may come next
+no-gap : (n : Node) → isDrawing n ≡ false → n .op ≡ 29 → ⊥
+unfolding isDrawing
+no-gap n e f = true≢false (sym (ap (λ (k : ℕ). leb 27 k && leb k 29) f) ∙ e)
+
+pub may-copy : {x : ℕ → Node} {y map : List ℕ} (n : Node) → Good y → count y < mostNodes → NodeFits n → isDrawing n ≡ false → fieldsRight requirementSorts (headerOf y .signals) (headerOf y .names) n ≡ true → Given x y map (aUse (n .op)) (n .a) → Given x y map (bUse (n .op)) (n .b) → Addable y (copiedNode map n)
+unfolding copiedNode fieldsRight
+may-copy {x} {y} {map} n good room fits plain right a b =
+    let s = headerOf y .signals in
+    let m = headerOf y .names in
+    let sort = sort-copied n plain (some-sort s m n right) in
+    record {
+      good = good;
+      room = room;
+      fits =
+          record {
+            op-fits = fits .op-fits;
+            q-fits = fits .q-fits;
+            a-fits = given-fits x y map s m (n .a) (aUse (n .op)) good (fits .a-fits) a;
+            b-fits = given-fits x y map s m (n .b) (bUse (n .op)) good (fits .b-fits) b;
+          };
+      right =
+          and-intro _ _ (ap (λ (z : ℕ). not (eqb z 0)) sort ∙ ap not (ne-eqb _ 0 (some-sort s m n right)))
+          (and-intro _ _ (q-right s m n right)
+          (and-intro _ _ (given-right x y map s m (n .a) (aUse (n .op)) (a-right s m n right))
+          (and-intro _ _ (given-right x y map s m (n .b) (bUse (n .op)) (b-right s m n right))
+          (ap (λ (z : Bool). not z || leb (mappedTo map (aUse (n .op)) (n .a)) (mappedTo map (bUse (n .op)) (n .b))) (ne-eqb (n .op) 29 (no-gap n plain))))));
+      a-right = given-operand x y map s m (n .a) (aUse (n .op)) a;
+      b-right = given-operand x y map s m (n .b) (bUse (n .op)) b;
+    }
+
+-- ---- and stands for the node
+-- as a node of op k
+copiedAs : List ℕ → ℕ → Node → Node
+copiedAs map k n = record { op = n .op; q = n .q; a = mappedTo map (aUse k) (n .a); b = mappedTo map (bUse k) (n .b) }
+
+CopiedProposition : List ℕ → Node → (ℕ → Proposition) → (ℕ → Proposition) → ℕ → Type 0
+CopiedProposition map n p p′ k =
+    (aUse k ≡ 7 → p′ (entryOf map (n .a)) ≡ p (n .a))
+    → (bUse k ≡ 7 → p′ (entryOf map (n .b)) ≡ p (n .b))
+    → propositionOf (propositionOp k) (copiedAs map k n) p′ ≡ propositionOf (propositionOp k) n p
+
+copied-proposition : (map : List ℕ) (n : Node) (p p′ : ℕ → Proposition) (k : ℕ) → CopiedProposition map n p p′ k
+unfolding CopiedProposition copiedAs mappedTo aUse bUse propositionOf propositionOp
+copied-proposition map n p p′ k =
+    proposition-cases (CopiedProposition map n p p′)
+    (λ g h. refl)
+    (λ g h. refl)
+    (λ g h. refl)
+    (λ g h. refl)
+    (λ g h. ap negated (g refl))
+    (λ g h. ap₂ bothOf (g refl) (h refl))
+    (λ g h. ap₂ eitherOf (g refl) (h refl))
+    k
+    (λ e g h. ap (λ (o : PropositionOp). propositionOf o (copiedAs map k n) p′) e ∙ sym (ap (λ (o : PropositionOp). propositionOf o n p) e))
+
+CopiedFormula : List ℕ → Node → (ℕ → Proposition) → (ℕ → Proposition) → (ℕ → Formula) → (ℕ → Formula) → ℕ → Type 0
+CopiedFormula map n p p′ f f′ k =
+    leb 27 k && leb k 29 ≡ false
+    → (aUse k ≡ 7 → p′ (entryOf map (n .a)) ≡ p (n .a))
+    → (aUse k ≡ 8 → f′ (entryOf map (n .a)) ≡ undrawn (f (n .a)))
+    → (bUse k ≡ 8 → f′ (entryOf map (n .b)) ≡ undrawn (f (n .b)))
+    → formulaOf (formulaOp k) (copiedAs map k n) p′ f′ ≡ undrawn (formulaOf (formulaOp k) n p f)
+
+copied-formula : (map : List ℕ) (n : Node) (p p′ : ℕ → Proposition) (f f′ : ℕ → Formula) (k : ℕ) → CopiedFormula map n p p′ f f′ k
+unfolding CopiedFormula copiedAs mappedTo aUse bUse formulaOf formulaOp undrawn
+copied-formula map n p p′ f f′ k =
+    formula-cases (CopiedFormula map n p p′ f f′)
+    (λ d e g h. ap point (e refl))
+    (λ d e g h. ap stretch (e refl))
+    (λ d e g h. ap whole (e refl))
+    (λ d e g h. ap unit (e refl))
+    (λ d e g h. ap₂ chop (g refl) (h refl))
+    (λ d e g h. ap₂ conjunction (g refl) (h refl))
+    (λ d e g h. ap₂ disjunction (g refl) (h refl))
+    (λ d e g h. ap star (g refl))
+    (λ d e g h. refl)
+    (λ d e g h. ap (λ (z : Proposition). scount (comparisonOf (n .q)) z (n .b)) (e refl))
+    (λ d e g h. ap (λ (z : Proposition). sdur (comparisonOf (n .q)) z (n .b)) (e refl))
+    (λ d e g h. absurd (true≢false d))
+    (λ d e g h. absurd (true≢false d))
+    (λ d e g h. absurd (true≢false d))
+    (λ d e g h. ap negation (g refl))
+    (λ d e g h. ap (forSome (n .b)) (g refl))
+    k
+    (λ other d e g h. ap (λ (o : FormulaOp). formulaOf o (copiedAs map k n) p′ f′) other ∙ sym (ap (λ (o : FormulaOp). undrawn (formulaOf o n p f)) other))
+
+pub copied-stands : {x : ℕ → Node} {i : ℕ} {y z map : List ℕ} {r : ℕ} → operandsRight requirementSorts x i ≡ true → (sortOf requirementSorts (x i .op) ≡ 0 → ⊥) → isDrawing (x i) ≡ false → Given x y map (aUse (x i .op)) (x i .a) → Given x y map (bUse (x i .op)) (x i .b) → Added y z r (copiedNode map (x i)) → Stands x i z r
+unfolding copiedNode copiedAs CopiedProposition CopiedFormula isDrawing
+copied-stands {x} {i} {y} {z} {map} {r} kept some plain a b new =
+    let sort = sort-copied (x i) plain some in
+    record {
+      proposition =
+          λ e. made-proposition new _ (sort ∙ e)
+          (copied-proposition map (x i) (propositionAt x) (propositionIn z) (x i .op)
+          (λ u. proposition-kept (new .step) (a .proposition u) .tree)
+          (λ u. proposition-kept (new .step) (b .proposition u) .tree)
+          ∙ sym (proposition-law requirementSorts x i kept))
+          .has;
+      formula =
+          λ e. made-formula new _ (sort ∙ e)
+          (copied-formula map (x i) (propositionAt x) (propositionIn z) (formulaAt x) (formulaIn z) (x i .op)
+          plain
+          (λ u. proposition-kept (new .step) (a .proposition u) .tree)
+          (λ u. has-kept (new .step) (a .formula u) .tree)
+          (λ u. has-kept (new .step) (b .formula u) .tree)
+          ∙ sym (ap undrawn (formula-law requirementSorts x i kept)))
+          .has;
+    }
+
+-- ---- drawings
+pub drawing-cases : (P : ℕ → Type 0) → P 27 → P 28 → P 29 → (n : Node) → isDrawing n ≡ true → P (n .op)
+unfolding isDrawing
+drawing-cases P p q r n e =
+    let low = leb-true 27 (n .op) (and-left (leb 27 (n .op)) _ e) in
+    let high = leb-true (n .op) 29 (and-right (leb 27 (n .op)) _ e) in
+    elim (test (eqb (n .op) 27)) [
+      | inl f ↦ subst P (sym (eqb-true _ 27 f)) p
+      | inr f ↦ elim (test (eqb (n .op) 28)) [
+        | inl g ↦ subst P (sym (eqb-true _ 28 g)) q
+        | inr g ↦ let not27 = eqb-false (n .op) 27 f in
+            let not28 = eqb-false (n .op) 28 g in
+            let is : 29 ≡ n .op = omega arith in
+            subst P is r
+      ]
+    ]
+
+DrawnAlike : Node → (ℕ → Proposition) → (ℕ → Formula) → ℕ → Type 0
+DrawnAlike n p f k = (sortOf requirementSorts k ≡ 2) × (formulaOf (formulaOp k) n noPropositions noFormulas ≡ formulaOf (formulaOp k) n p f)
+
+drawn-alike : (n : Node) (p : ℕ → Proposition) (f : ℕ → Formula) → isDrawing n ≡ true → DrawnAlike n p f (n .op)
+unfolding DrawnAlike sortOf formulaOf formulaOp
+drawn-alike n p f e = drawing-cases (DrawnAlike n p f) (refl, refl) (refl, refl) (refl, refl) n e
+
+pub drawing-stands : {x : ℕ → Node} {i : ℕ} {y z : List ℕ} {r k : ℕ} → operandsRight requirementSorts x i ≡ true → isDrawing (x i) ≡ true → Emits y z r k (drawingOf (x i)) → Stands x i z r
+unfolding drawingOf DrawnAlike
+drawing-stands {x} {i} kept drawing e =
+    let alike = drawn-alike (x i) (propositionAt x) (formulaAt x) drawing in
+    record {
+      proposition = λ s. absurd (omega (arith, alike .0));
+      formula =
+          λ s. record {
+            below = e .has .below;
+            sorted = e .has .sorted;
+            tree = e .has .tree ∙ ap undrawn (alike .1 ∙ sym (formula-law requirementSorts x i kept));
+          };
+    }
+
+-- ---- the map
+pub mapped-kept : {y z : List ℕ} {k : ℕ} (x : ℕ → Node) (i : ℕ) (map : List ℕ) → Step y z k → Mapped x i y map → Mapped x i z map
+mapped-kept x i map s h j l =
+    record {
+      proposition = λ e. proposition-kept s (h j l .proposition e);
+      formula = λ e. has-kept s (h j l .formula e);
+    }
+
+pub mapped-next : {y : List ℕ} {r : ℕ} (x : ℕ → Node) (i : ℕ) (map : List ℕ) → i < length map → Mapped x i y map → Stands x i y r → Mapped x (i + 1) y (set map i r)
+unfolding entryOf
+mapped-next {y} {r} x i map fits h new j l =
+    elim (test (eqb j i)) [
+      | inl e ↦ let is = eqb-true j i e in
+          subst (λ (o : ℕ). Stands x o y (getD (set map i r) o 0)) (sym is) (subst (Stands x i y) (sym (getD-set-same map i r 0 fits)) new)
+      | inr e ↦ let other = eqb-false j i e in
+          subst (Stands x j y) (sym (getD-set-other map i j r 0 other)) (h j (omega arith))
+    ]
+
+-- ---- costs
+pub cost-next : (x : ℕ → Node) (i : ℕ) → copyCosts x i + copyCost (x i) ≡ copyCosts x (i + 1)
+unfolding copyCosts copyCost countBelow drawingAt
+cost-next x i = rw native.Mathlib.Numerals.add-one (go (isDrawing (x i)) (countBelow i (drawingAt x)))
+  where
+    go : (b : Bool) (k : ℕ) → i + 11 * k + cond b 12 1 ≡ suc i + 11 * (k + cond b 1 0)
+    go true k = omega arith
+    go false k = omega arith
+
+count-most : (n : ℕ) (p : ℕ → Bool) → countBelow n p ≤ n
+unfolding countBelow
+count-most zero p = omega arith
+count-most (suc n) p = let rest = count-most n p in go (p n) rest
+  where
+    go : (b : Bool) → countBelow n p ≤ n → countBelow n p + cond b 1 0 ≤ suc n
+    go true h = omega arith
+    go false h = omega arith
+
+pub costs-most : (x : ℕ → Node) (i : ℕ) → copyCosts x i ≤ 12 * i
+unfolding copyCosts
+costs-most x i = omega (arith, count-most i (drawingAt x))
+
+pub cost-most : (n : Node) → copyCost n ≤ 12
+unfolding copyCost
+cost-most n = go (isDrawing n)
+  where
+    go : (b : Bool) → cond b 12 1 ≤ 12
+    go true = omega arith
+    go false = omega arith
+
+-- ---- fields that bytes hold
+pub node-fits : (l : List ℕ) (i : ℕ) → ((k : ℕ) → getD l k 0 < 256) → NodeFits (nodeAt l i)
+unfolding nodeAt word
+node-fits l i h =
+    record {
+      op-fits = h (6 * i);
+      q-fits = h (6 * i + 1);
+      a-fits = omega (arith, h (6 * i + 2), h (6 * i + 2 + 1));
+      b-fits = omega (arith, h (6 * i + 4), h (6 * i + 4 + 1));
+    }
+
+-- ---- the fields of a drawing that rule 6 takes
+module _ (s m : ℕ) (n : Node) (right : fieldsRight requirementSorts s m n ≡ true) where
+  pub symbol-right : n .op ≡ 27 → (n .q < 8) × (n .a < s)
+  unfolding fieldRight qUse aUse
+  symbol-right e = (
+    ltb-true _ _ (and-left (ltb (n .q) 8) true (subst (λ (k : ℕ). fieldRight s m (qUse k) (n .q) ≡ true) e (q-right s m n right))),
+    ltb-true _ _ (and-left (ltb (n .a) s) true (subst (λ (k : ℕ). fieldRight s m (aUse k) (n .a) ≡ true) e (a-right s m n right))),
+  )
+
+  pub mark-right : n .op ≡ 28 → n .a < m
+  unfolding fieldRight aUse
+  mark-right e = ltb-true _ _ (and-left (ltb (n .a) m) true (subst (λ (k : ℕ). fieldRight s m (aUse k) (n .a) ≡ true) e (a-right s m n right)))
+
+  pub gap-right : n .op ≡ 29 → (n .q / 16 < m) × (n .q % 16 < m)
+  unfolding fieldRight qUse
+  gap-right e =
+      let both : (ltb (n .q / 16) m && ltb (n .q % 16) m) ≡ true = subst (λ (k : ℕ). fieldRight s m (qUse k) (n .q) ≡ true) e (q-right s m n right) in
+      (ltb-true _ _ (and-left (ltb (n .q / 16) m) _ both), ltb-true _ _ (and-right (ltb (n .q / 16) m) _ both))
+
+pub gap-is : (n : Node) → isDrawing n ≡ true → (n .op ≡ 27 → ⊥) → (n .op ≡ 28 → ⊥) → n .op ≡ 29
+unfolding isDrawing
+gap-is n e a b =
+    let low = leb-true 27 (n .op) (and-left (leb 27 (n .op)) _ e) in
+    let high = leb-true (n .op) 29 (and-right (leb 27 (n .op)) _ e) in
+    omega arith
+
+-- ---- one node copied, n being node i
+module _ (x : ℕ → Node) (i : ℕ) {n : Node} (is : n ≡ x i) (kept : operandsRight requirementSorts x i ≡ true) where
+  pub copied-drawing : {y z : List ℕ} {r : ℕ} → isDrawing n ≡ true → Emits y z r 12 (drawingOf n) → (Step y z (copyCost (x i))) × (Stands x i z r)
+  unfolding copyCost
+  copied-drawing {y} {z} {r} drawing e =
+      let here : isDrawing (x i) ≡ true = ap isDrawing (sym is) ∙ drawing in (
+        subst (λ (b : Bool). Step y z (cond b 12 1)) (sym here) (e .step),
+        drawing-stands kept here (subst (λ (o : Node). Emits y z r 12 (drawingOf o)) is e),
+      )
+
+  module _ (y map : List ℕ) (right : fieldsRight requirementSorts (headerOf y .signals) (headerOf y .names) (x i) ≡ true) (mapped : Mapped x i y map) (plain : isDrawing n ≡ false) where
+    here-plain : isDrawing (x i) ≡ false
+    here-plain = ap isDrawing (sym is) ∙ plain
+
+    pub may-copied : Good y → count y < mostNodes → NodeFits (x i) → Addable y (copiedNode map n)
+    may-copied good room fits =
+        rw is (may-copy (x i) good room fits here-plain right (given-a kept mapped) (given-b kept mapped))
+
+    pub copied-plain : {z : List ℕ} {r : ℕ} → Added y z r (copiedNode map n) → (Step y z (copyCost (x i))) × (Stands x i z r)
+    unfolding copyCost
+    copied-plain {z} {r} new = (
+      subst (λ (b : Bool). Step y z (cond b 12 1)) (sym here-plain) (new .step),
+      copied-stands kept (some-sort _ _ (x i) right) here-plain (given-a kept mapped) (given-b kept mapped)
+          (subst (λ (o : Node). Added y z r (copiedNode map o)) is new),
+    )

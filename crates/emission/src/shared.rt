@@ -1,0 +1,83 @@
+// The nodes that are written once, at fixed numbers.
+use crate::node;
+use stored::Node;
+ghost use mathlib.Core.Path.{_≡_};
+ghost use Prim.Native.Nat.{_+_, _*_, _<_};
+ghost use Rattle.stored.specs.Sheet.{headerOf};
+ghost use Rattle.emission.specs.Emission.{count, Good, Step, Shared, Ready};
+
+pub const ANYWHERE: usize = 0;
+
+pub const EXTENDED: usize = 1;
+
+pub const NOTHING: usize = 2;
+
+fn put_lengths(out: &mut [u8])
+    requires { ⌜ (Good (now out)) × (count (now out) ≡ 0) ⌝ }
+    ensures { λ _. ⌜ (Shared (now (out .exit)) 0) × (count (now (out .exit)) ≡ 3) × (Step (now (out .entry)) (now (out .exit)) 3) ⌝ }
+{
+    node::emit(
+        out,
+        Node {
+            op: 24,
+            q: node::AT_LEAST,
+            a: 0,
+            b: 0,
+        },
+    );
+    node::emit(
+        out,
+        Node {
+            op: 24,
+            q: node::ABOVE,
+            a: 0,
+            b: 0,
+        },
+    );
+    node::emit(
+        out,
+        Node {
+            op: 24,
+            q: node::BELOW,
+            a: 0,
+            b: 0,
+        },
+    );
+}
+
+// Name u, and its one mark.
+fn put_name(out: &mut [u8], u: usize)
+    requires { ⌜ (Shared (now out) u) × (count (now out) ≡ 3 + 2 * u) × (u < headerOf (now out) .names) ⌝ }
+    ensures { λ _. ⌜ (Shared (now (out .exit)) (u + 1)) × (count (now (out .exit)) ≡ 3 + 2 * (u + 1)) × (Step (now (out .entry)) (now (out .exit)) 2) ⌝ }
+{
+    let marked = node::emit(
+        out,
+        Node {
+            op: 4,
+            q: 0,
+            a: u,
+            b: 0,
+        },
+    );
+    node::emit(
+        out,
+        Node {
+            op: 25,
+            q: node::EQUAL,
+            a: marked,
+            b: 1,
+        },
+    );
+}
+
+pub fn put_shared(out: &mut [u8], m: usize)
+    requires { ⌜ (Good (now out)) × (count (now out) ≡ 0) × (m ≡ headerOf (now out) .names) ⌝ }
+    ensures { λ _. ⌜ (Ready (now (out .exit))) × (Step (now (out .entry)) (now (out .exit)) (3 + 2 * m)) ⌝ }
+{
+    put_lengths(out);
+    let mut u = 0;
+    while u < m {
+        put_name(out, u);
+        u += 1;
+    }
+}

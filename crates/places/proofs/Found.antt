@@ -1,0 +1,208 @@
+-- The words that the search reads off three rows.
+use Prim.Native.Nat.{ℕ, suc, _-_, _^_, _≤_, _<_}
+use native.Mathlib.Omega.{arith}
+use native.Mathlib.Nat.{lt-of-le-of-lt, eq-or-lt-of-le}
+use mathlib.Core.Bool.{Bool, true, false, not, _&&_, true≢false, false≢true}
+use mathlib.Core.Logic.{inl, inr}
+use mathlib.Core.Path.{_≡_, refl, sym, ap, subst, _∙_}
+use lib.Bits.{bitAnd, and-le-l}
+use lib.Count.{trailingZeros}
+use lib.Dec.{leb, ltb, eqb, leb·zero}
+use lib.Pow.{pow-pos}
+use borrow.Author.Tests.{leb-true, leb-false, le-leb, ltb-true, lt-ltb, eqb-true, eq-eqb, ne-eqb}
+use Rattle.semantics.specs.Cycles.{someBelow, someFrom, someIn}
+use Rattle.semantics.specs.Proposition.{bit}
+use Rattle.semantics.specs.Clause.{Kind, pref, init, anti, implies, follows, triggers}
+use Rattle.semantics.proofs.Tests.{same, test, is-false, false-not, and-left, and-right, and-intro, and-comm, and-false, and-false-left, and-true-right, not-intro, not-elim}
+use Rattle.semantics.proofs.Cycles.{below-intro, below-elim, below-cong, some-elim}
+use Rattle.rows.specs.Row.{word, row, always}
+use Rattle.rows.proofs.Bits.{bit-and, bit-not, bit-above, bit-nothing}
+use Rattle.rows.proofs.Rows.{word-small, word-bit, is-word-in, is-word, masked-row}
+use Rattle.rows.proofs.Masks.{cut-bit, none-lower}
+use Rattle.rows.proofs.Cuts.{before-bit}
+use Rattle.places.specs.Search.{missed}
+use Rattle.places.specs.Rows.{starting, unmet, ending, Next}
+
+abbrev cut : ℕ → ℕ → ℕ
+cut set b = bitAnd set (2 ^ 64 - 1 - word 64 (λ e. ltb e b))
+
+cut-small : (set b : ℕ) → set < 2 ^ 64 → cut set b < 2 ^ 64
+cut-small set b h = lt-of-le-of-lt (and-le-l set (2 ^ 64 - 1 - word 64 (λ e. ltb e b))) h
+
+pub next-is : (set j : ℕ) → set < 2 ^ 64 → j ≤ 64 → Next set j (trailingZeros 64 (cut set j))
+next-is set j h l = go (trailingZeros 64 (cut set j)) (λ e m. none-lower 64 (cut set j) e (cut-small set j h) m)
+  where
+    go : (r : ℕ) → ((e : ℕ) → e ≤ 64 → leb e r ≡ not (someBelow e (bit (cut set j)))) → Next set j r
+    go r f =
+        record {
+          low = leb-true j r (f j l ∙ not-intro (someBelow j (bit (cut set j))) (λ s.
+              let w = below-elim j (bit (cut set j)) s in
+              let k = leb-true j (w .at) (and-right (bit set (w .at)) (leb j (w .at)) (sym (cut-bit 64 set j (w .at) (omega (arith, w .high))) ∙ w .ok)) in
+              omega (arith, w .high)));
+          ok = λ m. ok m;
+          between = λ x a b. is-false (bit set x) (λ q. between x a b q);
+        }
+      where
+        ok : r < 64 → bit set r ≡ true
+        ok m =
+            elim (test (someBelow (suc r) (bit (cut set j)))) [
+              | inl s ↦
+                  let w = below-elim (suc r) (bit (cut set j)) s in
+                  let o : w .at ≤ r = omega (arith, w .high) in
+                  elim (eq-or-lt-of-le o) [
+                    | inl e ↦
+                        subst (λ (x : ℕ). bit set x ≡ true) e
+                        (and-left (bit set (w .at)) (leb j (w .at)) (sym (cut-bit 64 set j (w .at) (omega arith)) ∙ w .ok))
+                    | inr k ↦
+                        absurd (not-elim (someBelow r (bit (cut set j))) (sym (f r (omega arith)) ∙ le-leb r r (omega arith))
+                        (below-intro r (bit (cut set j)) (w .at) k (w .ok)))
+                  ]
+              | inr s ↦ let k = leb-true (suc r) r (f (suc r) m ∙ ap not s) in absurd (omega arith)
+            ]
+
+        between : (x : ℕ) → j ≤ x → x < r → bit set x ≡ true → ⊥
+        between x a b q =
+            elim (test (leb (suc x) 64)) [
+              | inl m ↦
+                  let k = leb-true (suc x) 64 m in
+                  not-elim (someBelow (suc x) (bit (cut set j))) (sym (f (suc x) k) ∙ le-leb (suc x) r b)
+                  (below-intro (suc x) (bit (cut set j)) x (omega arith)
+                  (cut-bit 64 set j x k ∙ and-intro (bit set x) (leb j x) q (le-leb j x a)))
+              | inr m ↦ false-not (bit set x) (bit-above 64 set x h (omega (arith, leb-false (suc x) 64 m))) q
+            ]
+
+-- some answer from s up to e
+cut-some : (answers s e : ℕ) → e ≤ 64 → someBelow e (bit (cut answers s)) ≡ someFrom s e (bit answers)
+unfolding someFrom
+cut-some answers s e l =
+    below-cong e (bit (cut answers s)) (λ i. leb s i && bit answers i)
+    (λ i h. cut-bit 64 answers s i (omega arith) ∙ and-comm (bit answers i) (leb s i))
+
+pub unmet-is : (n third answers s : ℕ) → n ≤ 64
+    → bitAnd (row n always s) (bitAnd third (word 64 (λ e. not (someBelow (suc e) (bit (cut answers s)))))) ≡ word n (unmet s (bit third) (bit answers))
+unfolding row unmet
+unmet-is n third answers s l =
+    masked-row n (bitAnd third (word 64 (λ e. not (someBelow (suc e) (bit (cut answers s)))))) (λ s k. bit third k && not (someIn s k (bit answers))) s
+    (λ e a b. bit-and third (word 64 (λ e. not (someBelow (suc e) (bit (cut answers s))))) e
+    ∙ ap (λ (r : Bool). bit third e && r)
+    (before-bit (cut answers s) e (omega arith) ∙ ap not (cut-some answers s (suc e) (omega arith))))
+
+-- a word cut to n cycles
+limited : (n x : ℕ) (p : ℕ → Bool) → n ≤ 64 → ((e : ℕ) → e < n → bit x e ≡ p e) → bitAnd (word 64 (λ e. ltb e n)) x ≡ word n p
+limited n x p l f =
+    is-word-in 64 n (bitAnd (word 64 (λ e. ltb e n)) x) p l
+    (lt-of-le-of-lt (and-le-l (word 64 (λ e. ltb e n)) x) (word-small 64 (λ e. ltb e n)))
+    (λ e h. bit-and (word 64 (λ e. ltb e n)) x e ∙ ap (λ (r : Bool). r && bit x e) (word-bit 64 (λ e. ltb e n) e h) ∙ under e (ltb e n) refl)
+  where
+    under : (e : ℕ) (r : Bool) → ltb e n ≡ r → r && bit x e ≡ (r && p e)
+    under e true q = f e (ltb-true e n q)
+    under e false q = refl
+
+no-starts : (n : ℕ) (p : ℕ → Bool) → ((e : ℕ) → p e ≡ false) → 0 ≡ word n p
+no-starts n p f = is-word n 0 p (pow-pos n) (λ e h. bit-nothing e ∙ sym (f e))
+
+module _ (n i first answers : ℕ) (l : n ≤ 64) (h : answers < 2 ^ 64) where
+  pub pref-starts : i ≡ 0 → bitAnd (word 64 (λ e. ltb e n)) (2 ^ 64 - 1 - answers) ≡ word n (starting pref i (bit first) (bit answers))
+  unfolding starting
+  pref-starts z =
+      limited n (2 ^ 64 - 1 - answers) (λ j. eqb i 0 && not (bit answers j)) l
+      (λ e m. bit-not 64 answers e h (omega arith) ∙ ap (λ (r : Bool). r && not (bit answers e)) (sym (eq-eqb i 0 z)))
+
+  pub pref-none : (i ≡ 0 → ⊥) → 0 ≡ word n (starting pref i (bit first) (bit answers))
+  unfolding starting
+  pref-none z = no-starts n (λ j. eqb i 0 && not (bit answers j)) (λ e. ap (λ (r : Bool). r && not (bit answers e)) (ne-eqb i 0 z))
+
+  pub init-starts : i ≡ 0
+      → bitAnd (word 64 (λ e. ltb e n)) (bitAnd first (word 64 (λ e. not (someBelow (suc e) (bit answers))))) ≡ word n (starting init i (bit first) (bit answers))
+  unfolding starting someFrom
+  init-starts z =
+      limited n (bitAnd first (word 64 (λ e. not (someBelow (suc e) (bit answers))))) (λ j. eqb i 0 && (bit first j && not (someIn 0 j (bit answers)))) l
+      (λ e m. bit-and first (word 64 (λ e. not (someBelow (suc e) (bit answers)))) e
+      ∙ ap (λ (r : Bool). bit first e && r)
+      (before-bit answers e (omega arith)
+      ∙ ap not (below-cong (suc e) (bit answers) (λ t. leb 0 t && bit answers t) (λ t a. ap (λ (r : Bool). r && bit answers t) (sym (leb·zero t)))))
+      ∙ ap (λ (r : Bool). r && (bit first e && not (someIn 0 e (bit answers)))) (sym (eq-eqb i 0 z)))
+
+  pub init-none : (i ≡ 0 → ⊥) → 0 ≡ word n (starting init i (bit first) (bit answers))
+  unfolding starting
+  init-none z =
+      no-starts n (λ j. eqb i 0 && (bit first j && not (someIn 0 j (bit answers))))
+      (λ e. ap (λ (r : Bool). r && (bit first e && not (someIn 0 e (bit answers)))) (ne-eqb i 0 z))
+
+  -- anti, follows and triggers alike
+  pub first-starts : bitAnd (row n always i) first ≡ word n (λ j. leb i j && bit first j)
+  unfolding row
+  first-starts = masked-row n first (λ i j. bit first j) i (λ e a b. refl)
+
+  pub implies-starts : bitAnd (row n always i) (bitAnd first (2 ^ 64 - 1 - answers)) ≡ word n (starting implies i (bit first) (bit answers))
+  unfolding row starting
+  implies-starts =
+      masked-row n (bitAnd first (2 ^ 64 - 1 - answers)) (λ i j. bit first j && not (bit answers j)) i
+      (λ e a b. bit-and first (2 ^ 64 - 1 - answers) e ∙ ap (λ (r : Bool). bit first e && r) (bit-not 64 answers e h (omega arith)))
+
+pub only-end : (n j : ℕ) → j < n → n ≤ 64 → word 64 (eqb j) ≡ word n (λ k. eqb k j)
+only-end n j l h =
+    is-word-in 64 n (word 64 (eqb j)) (λ k. eqb k j) h (word-small 64 (eqb j))
+    (λ k m. word-bit 64 (eqb j) k m ∙ same (eqb j k) (ltb k n && eqb k j)
+    (λ q. let e = eqb-true j k q in and-intro (ltb k n) (eqb k j) (lt-ltb k n (omega arith)) (eq-eqb k j (omega arith)))
+    (λ q. let e = eqb-true k j (and-right (ltb k n) (eqb k j) q) in eq-eqb j k (omega arith)))
+
+-- ---- unanswered, as the search takes it apart
+turned : (a b c : Bool) → a && b && c ≡ (a && c && b)
+turned true b c = and-comm b c
+turned false b c = refl
+
+turned-in : (a b c d : Bool) → a && b && (c && d) ≡ (a && c && (b && d))
+turned-in true true c d = refl
+turned-in true false c d = sym (and-false c)
+turned-in false b c d = refl
+
+pub missed-is : (κ : Kind) (first third answers : ℕ → ℕ → Bool) (i j k : ℕ)
+    → missed κ first third answers i j k ≡ (starting κ i (first i) (answers i) j && ending κ i j third answers k)
+unfolding missed starting ending unmet
+missed-is pref first third answers i j k = go (eqb i 0) refl
+  where
+    go : (z : Bool) → eqb i 0 ≡ z → z && eqb k j && not (answers 0 j) ≡ (z && not (answers i j) && eqb k j)
+    go true q = rw (eqb-true i 0 q) (and-comm (eqb k j) (not (answers 0 j)))
+    go false q = refl
+missed-is init first third answers i j k = go (eqb i 0) refl
+  where
+    go : (z : Bool) → eqb i 0 ≡ z
+        → z && eqb k j && (first 0 j && not (someIn 0 j (answers 0))) ≡ (z && (first i j && not (someIn 0 j (answers i))) && eqb k j)
+    go true q = rw (eqb-true i 0 q) (and-comm (eqb k j) (first 0 j && not (someIn 0 j (answers 0))))
+    go false q = refl
+missed-is anti first third answers i j k = turned (leb i j) (eqb k j) (first i j)
+missed-is implies first third answers i j k = turned (leb i j) (eqb k j) (first i j && not (answers i j))
+missed-is follows first third answers i j k =
+    turned-in (leb i j) (leb j k) (first i j) (third j k && not (someIn j k (answers j)))
+missed-is triggers first third answers i j k =
+    turned-in (leb i j) (leb i k) (first i j) (third i k && not (someIn i k (answers i)))
+
+-- ---- where no interval is open without any answer, none is with some
+unmoved : (a c m : Bool) → a && (c && true) ≡ false → a && (c && m) ≡ false
+unmoved true true m h = absurd (true≢false h)
+unmoved true false m h = refl
+unmoved false c m h = refl
+
+deeper : (a c d m : Bool) → a && (c && (d && true)) ≡ false → a && (c && (d && m)) ≡ false
+deeper a true d m h = unmoved a d m h
+deeper a false d m h = h
+
+none-some : (x y : ℕ) → not (someIn x y (λ e. false)) ≡ true
+none-some x y = not-intro (someIn x y (λ e. false)) (λ q. let w = some-elim x (suc y) (λ e. false) q in false≢true (w .ok))
+
+pub missed-fewer : (κ : Kind) (first third answers : ℕ → ℕ → Bool) (i j k : ℕ)
+    → missed κ first third (λ b e. false) i j k ≡ false → missed κ first third answers i j k ≡ false
+unfolding missed
+missed-fewer pref first third answers i j k h = and-false-left (eqb i 0 && eqb k j) (not (answers 0 j)) (sym (and-true-right (eqb i 0 && eqb k j)) ∙ h)
+missed-fewer init first third answers i j k h =
+    unmoved (eqb i 0 && eqb k j) (first 0 j) (not (someIn 0 j (answers 0)))
+    (sym (ap (λ (x : Bool). (eqb i 0 && eqb k j) && (first 0 j && x)) (none-some 0 j)) ∙ h)
+missed-fewer anti first third answers i j k h = h
+missed-fewer implies first third answers i j k h = unmoved (leb i j && eqb k j) (first i j) (not (answers i j)) h
+missed-fewer follows first third answers i j k h =
+    deeper (leb i j && leb j k) (first i j) (third j k) (not (someIn j k (answers j)))
+    (sym (ap (λ (x : Bool). (leb i j && leb j k) && (first i j && (third j k && x))) (none-some j k)) ∙ h)
+missed-fewer triggers first third answers i j k h =
+    deeper (leb i j && leb i k) (first i j) (third i k) (not (someIn i k (answers i)))
+    (sym (ap (λ (x : Bool). (leb i j && leb i k) && (first i j && (third i k && x))) (none-some i k)) ∙ h)

@@ -1,0 +1,68 @@
+-- `places::task::task_of` meets its contract.
+use mathlib.Core.Path.{ap, ap₂, _∙_}
+use mathlib.Core.Bool.{cond}
+use Prim.Native.Nat.{ℕ, _-_, _^_}
+use lib.Bits.{bitAnd}
+use lib.Dec.{eqb}
+use Rattle.places.specs.Task.{taskOf}
+use Rattle.places.proofs.Tasks.{same-task}
+use borrow.Author.Needs.{needs}
+use Rattle.places.proofs.task.task_of.Statement.{statement}
+use Rattle.places.proofs.task.task_of.Tie as tie
+
+kind-numbered-requires : tie.Need-kind-numbered-requires
+kind-numbered-requires c κs = search needs
+
+choose-requires : tie.Need-choose-requires
+choose-requires c κs = search needs
+
+choose-requires-2 : tie.Need-choose-requires-2
+choose-requires-2 c κs = search needs
+
+choose-requires-3 : tie.Need-choose-requires-3
+choose-requires-3 c κs = search needs
+
+choose-requires-4 : tie.Need-choose-requires-4
+choose-requires-4 c κs = search needs
+
+choose-requires-5 : tie.Need-choose-requires-5
+choose-requires-5 c κs = search needs
+
+choose-requires-6 : tie.Need-choose-requires-6
+choose-requires-6 c κs = search needs
+
+choose-requires-7 : tie.Need-choose-requires-7
+choose-requires-7 c κs = search needs
+
+choose-requires-8 : tie.Need-choose-requires-8
+choose-requires-8 c κs = search needs
+
+choose-requires-9 : tie.Need-choose-requires-9
+choose-requires-9 c κs = search needs
+
+returns : tie.Need-returns
+unfolding taskOf
+returns c =
+    let d = c .before .before .before .before .before .before .before .before .before .before .before .args .d in
+    let late = c .before .before .choose7 .ensures in
+    let inner = c .before .choose8 .ensures ∙ ap (λ (x : ℕ). cond (eqb (d .kind) 2) (d .mask2) x) late in
+    let quantified = c .choose9 .ensures ∙ ap (λ (x : ℕ). cond (eqb (d .kind) 1) 0 x) inner in
+    let replies = c .before .before .before .before .choose6 .ensures in
+    same-task (c .before .before .before .before .before .before .before .before .before .before .kind-numbered .ensures) (c .before .before .before .before .before .before .before .before .before .choose .ensures) (c .before .before .before .before .before .before .before .before .choose2 .ensures) (c .before .before .before .before .before .before .before .choose3 .ensures) (c .before .before .before .before .before .before .choose4 .ensures)
+    (c .before .before .before .before .before .choose5 .ensures) replies quantified (ap₂ (λ (x y : ℕ). bitAnd x (2 ^ 64 - 1 - y)) replies quantified)
+
+pub task-of-spec : {M : Type 1} → statement M
+task-of-spec =
+    tie.close
+    (tie.spec
+    kind-numbered-requires
+    choose-requires
+    choose-requires-2
+    choose-requires-3
+    choose-requires-4
+    choose-requires-5
+    choose-requires-6
+    choose-requires-7
+    choose-requires-8
+    choose-requires-9
+    returns)

@@ -1,0 +1,52 @@
+-- The three arrays of rows that the search reads, as tests on intervals.
+use Prim.Native.Nat.{ℕ, _≤_, _<_}
+use mathlib.Core.Bool.{Bool, true, false, not, _&&_}
+use mathlib.Core.List.{List}
+use mathlib.Core.Path.{_≡_}
+use lib.Dec.{leb, eqb}
+use lib.ListN.{getD}
+use Rattle.semantics.specs.Cycles.{someIn}
+use Rattle.semantics.specs.Proposition.{bit}
+use Rattle.semantics.specs.Clause as clause
+use Rattle.places.specs.declared.search.Kind.{Kind}
+use Rattle.places.specs.declared.search.Kind.the-variants.{Pref, Init, Anti, Implies, Follows, Triggers}
+
+abbrev pub kindOf : Kind → clause.Kind
+kindOf Pref = clause.pref
+kindOf Init = clause.init
+kindOf Anti = clause.anti
+kindOf Implies = clause.implies
+kindOf Follows = clause.follows
+kindOf Triggers = clause.triggers
+
+-- bit e of row b
+unfoldable pub testOf : List ℕ → ℕ → ℕ → Bool
+testOf rows b e = bit (getD rows b 0) e
+
+-- the ends j of intervals from i that may be unanswered, by row i of the premise and of the answers
+unfoldable pub starting : clause.Kind → ℕ → (ℕ → Bool) → (ℕ → Bool) → ℕ → Bool
+starting clause.pref i first answers j = eqb i 0 && not (answers j)
+starting clause.init i first answers j = eqb i 0 && (first j && not (someIn 0 j answers))
+starting clause.anti i first answers j = leb i j && first j
+starting clause.implies i first answers j = leb i j && (first j && not (answers j))
+starting clause.follows i first answers j = leb i j && first j
+starting clause.triggers i first answers j = leb i j && first j
+
+-- Ξ of D3 from s to k, and no answer from s up to k
+unfoldable pub unmet : ℕ → (ℕ → Bool) → (ℕ → Bool) → ℕ → Bool
+unmet s third answers k = leb s k && (third k && not (someIn s k answers))
+
+-- the cycles k at which the interval from i to j is then unanswered
+unfoldable pub ending : clause.Kind → ℕ → ℕ → (ℕ → ℕ → Bool) → (ℕ → ℕ → Bool) → ℕ → Bool
+ending clause.pref i j third answers k = eqb k j
+ending clause.init i j third answers k = eqb k j
+ending clause.anti i j third answers k = eqb k j
+ending clause.implies i j third answers k = eqb k j
+ending clause.follows i j third answers k = unmet j (third j) (answers j) k
+ending clause.triggers i j third answers k = unmet i (third i) (answers i) k
+
+-- r is the least cycle from j on that belongs to the set; 64 or more where none does
+pub record Next (set j r : ℕ) : Type 0 where
+  pub low : j ≤ r
+  pub ok : r < 64 → bit set r ≡ true
+  pub between : (x : ℕ) → j ≤ x → x < r → bit set x ≡ false

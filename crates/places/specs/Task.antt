@@ -1,0 +1,47 @@
+-- What the check does for one clause: the part that it starts from, Ξ's part and the part that answers, and which names are put on cycles when.
+use Prim.Native.Nat.{ℕ, _-_, _^_}
+use mathlib.Core.Bool.{Bool, cond}
+use mathlib.Core.List.{[], _∷_}
+use lib.Bits.{bitAnd, bitOr}
+use lib.Dec.{ltb, eqb}
+use lib.ListN.{getD}
+use Rattle.semantics.specs.Proposition.{Trace, bit}
+use Rattle.semantics.specs.Placement.{Placement}
+use Rattle.stored.specs.declared.Node.{Node}
+use Rattle.stored.specs.declared.StoredClause.{StoredClause}
+use Rattle.stored.specs.Clause.{partOf}
+use Rattle.places.specs.declared.search.Kind.{Kind}
+use Rattle.places.specs.declared.search.Kind.the-variants.{Pref, Init, Anti, Implies, Follows, Triggers}
+use Rattle.places.specs.declared.task.Task.{Task}
+use Rattle.places.specs.Search.{onInside, shortInside, answered, missed}
+use Rattle.places.specs.Rows.{kindOf}
+
+-- types by their numbers, 1 to 6
+unfoldable pub kindNumbered : ℕ → Kind
+kindNumbered k = getD (Pref ∷ Pref ∷ Init ∷ Anti ∷ Implies ∷ Follows ∷ Triggers ∷ []) k Triggers
+
+-- A type without Ξ's part takes the first part there: it says nothing.
+unfoldable pub taskOf : StoredClause → Task
+taskOf d =
+    let quantified = cond (eqb (d .kind) 1) 0 (cond (eqb (d .kind) 2) (d .mask2) (cond (ltb (d .kind) 5) (d .mask1) (bitOr (d .mask1) (d .mask3)))) in
+    let replies = cond (ltb (d .kind) 4) (d .mask1) (d .mask2) in
+    record {
+      kind = kindNumbered (d .kind);
+      premise = cond (eqb (d .kind) 2) (d .root2) (d .root1);
+      premises = cond (eqb (d .kind) 2) (d .mask2) (d .mask1);
+      third = cond (ltb (d .kind) 5) (d .root1) (d .root3);
+      thirds = cond (ltb (d .kind) 5) (d .mask1) (d .mask3);
+      reply = cond (ltb (d .kind) 4) (d .root1) (d .root2);
+      replies = replies;
+      quantified = quantified;
+      rest = bitAnd replies (2 ^ 64 - 1 - quantified);
+    }
+
+-- the interval is unanswered at i, j, k, by the task's parts, with the quantified names standing where ν puts them
+unfoldable pub missedTask : (ℕ → Node) → Task → Trace → ℕ → Placement → ℕ → ℕ → ℕ → Bool
+missedTask x t σ last ν i j k =
+    missed (kindOf (t .kind))
+    (onInside (partOf x (t .premise) (t .premises)) σ ν)
+    (shortInside (partOf x (t .third) (t .thirds)) σ ν)
+    (answered (bit (t .rest)) (partOf x (t .reply) (t .replies)) σ last ν)
+    i j k

@@ -1,0 +1,72 @@
+// What the check does for one clause.
+use crate::search::Kind;
+use stored::StoredClause;
+ghost use mathlib.Core.Path.{_≡_};
+ghost use mathlib.Core.Bool.{cond};
+ghost use Prim.Native.Nat.{_≤_};
+ghost use Rattle.places.specs.Task.{kindNumbered, taskOf};
+
+// The nodes of the part that a clause starts from, of Ξ's part and of the part that answers, each with its names as a mask; the
+// names that are quantified universally; and those of the answer that are left.
+pub struct Task {
+    pub kind: Kind,
+    pub premise: usize,
+    pub premises: usize,
+    pub third: usize,
+    pub thirds: usize,
+    pub reply: usize,
+    pub replies: usize,
+    pub quantified: usize,
+    pub rest: usize,
+}
+
+fn kind_numbered(number: usize) -> Kind
+    requires { ⌜ (1 ≤ number) × (number ≤ 6) ⌝ }
+    ensures { λ r. ⌜ r ≡ kindNumbered number ⌝ }
+{
+    match number {
+        1 => Kind::Pref,
+        2 => Kind::Init,
+        3 => Kind::Anti,
+        4 => Kind::Implies,
+        5 => Kind::Follows,
+        _ => Kind::Triggers,
+    }
+}
+
+pub fn choose(first: bool, a: usize, b: usize) -> usize
+    ensures { λ r. ⌜ r ≡ cond first a b ⌝ }
+{
+    if first { a } else { b }
+}
+
+pub fn task_of(d: StoredClause) -> Task
+    requires { ⌜ (1 ≤ d .kind) × (d .kind ≤ 6) ⌝ }
+    ensures { λ r. ⌜ r ≡ taskOf d ⌝ }
+{
+    let number = d.kind;
+    let two = number == 2;
+    let early = number < 5;
+    let same = number < 4;
+    let kind = kind_numbered(number);
+    let premise = choose(two, d.root2, d.root1);
+    let premises = choose(two, d.mask2, d.mask1);
+    let third = choose(early, d.root1, d.root3);
+    let thirds = choose(early, d.mask1, d.mask3);
+    let reply = choose(same, d.root1, d.root2);
+    let replies = choose(same, d.mask1, d.mask2);
+    let late = choose(early, d.mask1, d.mask1 | d.mask3);
+    let quantified = choose(number == 1, 0, choose(two, d.mask2, late));
+    let rest = replies & !quantified;
+    Task {
+        kind,
+        premise,
+        premises,
+        third,
+        thirds,
+        reply,
+        replies,
+        quantified,
+        rest,
+    }
+}
