@@ -276,7 +276,22 @@ pub fn table(
 }
 
 /// [`table`] in lent words, [`WORDS`] or more, and into lent rows, [`ROWS`] or more; fewer of either
-/// are refused by 15.
+/// are refused by 15. Answered, it leaves the words all zero and the rows past the table as they
+/// were; refused, it leaves both as they were.
+///
+/// ```
+/// # let sheet = [
+/// #     0x00, 0x1E, 1, 1, 1, 0, 0, 2, 1, 3, 0, 0, 0, 0, 0, 16, 0, 0, 0, 0, 0,
+/// #     3, 1, 0, 1, 0, 0, 0, 0, 0, 0, 0,
+/// # ];
+/// let trace = [0x00, 0x04, 1, 1, 0, 1];
+/// let (mut words, mut rows) = (vec![7; fasunqir::WORDS], vec![7; 65]);
+/// fasunqir::table_with(&sheet, &trace, 1, [0; 3], &mut words, &mut rows).unwrap();
+/// assert_eq!((rows[0], rows[1], rows[64]), (1, 0, 7));
+///
+/// let refusal = fasunqir::table_with(&sheet, &trace, 1, [0; 3], &mut words, &mut rows[..63]);
+/// assert_eq!(refusal.unwrap_err().number(), 15);
+/// ```
 pub fn table_with(
     sheet: &[u8],
     trace: &[u8],
@@ -332,6 +347,19 @@ pub fn translate(sheet: &[u8]) -> Result<Vec<u8>, Refusal> {
 
 /// [`translate`] into lent bytes, [`OUTPUT`] or more; gives the formula's length, and the bytes from
 /// there on keep their values.
+///
+/// ```
+/// # let sheet = [
+/// #     0x00, 0x1E, 1, 1, 1, 0, 0, 2, 1, 3, 0, 0, 0, 0, 0, 16, 0, 0, 0, 0, 0,
+/// #     3, 1, 0, 1, 0, 0, 0, 0, 0, 0, 0,
+/// # ];
+/// let mut out = vec![7; fasunqir::OUTPUT];
+/// let length = fasunqir::translate_into(&sheet, &mut out).unwrap();
+/// assert_eq!((out[3], out[length]), (2, 7));
+///
+/// let refusal = fasunqir::translate_into(&sheet, &mut out[..8191]);
+/// assert_eq!(refusal.unwrap_err().number(), 14);
+/// ```
 pub fn translate_into(sheet: &[u8], out: &mut [u8]) -> Result<usize, Refusal> {
     // Each pointer is of a live slice of the length that goes with it, and the operation keeps none.
     let answer = unsafe {

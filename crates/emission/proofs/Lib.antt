@@ -2,8 +2,5 @@
 pub mod Steps
 pub mod Nodes
 pub mod SharedNodes
-pub mod Names
 pub mod Symbols
 pub mod Copied
-pub mod Joining
-pub mod Closed

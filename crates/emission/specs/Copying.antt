@@ -1,25 +1,21 @@
--- The sheet's nodes and clauses, as they are copied.
+-- The sheet's nodes, as they are copied.
 use Prim.Native.Nat.{ℕ, _+_, _*_, _≤_, _<_}
 use mathlib.Core.Bool.{true, cond, _||_}
 use mathlib.Core.List.{List}
 use mathlib.Core.Path.{_≡_}
 use lib.Dec.{eqb}
 use lib.ListN.{length}
-use Rattle.semantics.specs.Proposition.{Proposition, never, bit}
+use Rattle.semantics.specs.Proposition.{Proposition, never}
 use Rattle.semantics.specs.Formula.{Formula}
-use Rattle.semantics.specs.Clause.{Clause}
 use Rattle.semantics.specs.Cycles.{countBelow}
-use Rattle.semantics.specs.Translation.{nothing, undrawn, brokenOf}
+use Rattle.semantics.specs.Translation.{nothing, undrawn}
 use Rattle.stored.specs.declared.Node.{Node}
-use Rattle.stored.specs.declared.StoredClause.{StoredClause}
-use Rattle.stored.specs.Bytes.{inOrder}
 use Rattle.stored.specs.Node.{requirementSorts, sortOf, aUse, bUse, nodeAt, fieldsRight, operandsRight}
 use Rattle.stored.specs.Tree.{propositionAt, formulaOp, formulaOf, formulaAt}
 use Rattle.stored.specs.Reach.{entryOf}
-use Rattle.stored.specs.Clause.{storedAt, clauseRight, clauseNamed, kindOf, clauseOf}
 use Rattle.stored.specs.Sheet.{headerOf}
 use Rattle.emission.specs.Bound.{isDrawing, drawingAt}
-use Rattle.emission.specs.Emission.{formulaIn, HasProposition, Has, PartsIn}
+use Rattle.emission.specs.Emission.{HasProposition, Has}
 
 -- node r stands for node i of the sheet, its drawings told by other formulas
 pub record Stands (x : ℕ → Node) (i : ℕ) (y : List ℕ) (r : ℕ) : Type 0 where
@@ -61,33 +57,3 @@ pub record NodesIn (y : List ℕ) (nodes : List ℕ) (n : ℕ) : Type 0 where
   pub inside : 6 * n ≤ length nodes
   pub fields : (i : ℕ) → i < n → fieldsRight requirementSorts (headerOf y .signals) (headerOf y .names) (nodeAt nodes i) ≡ true
   pub operands : (i : ℕ) → i < n → operandsRight requirementSorts (nodeAt nodes) i ≡ true
-
--- the clauses of a sheet that rules 8 and 9 take
-pub record ClausesIn (y : List ℕ) (nodes : List ℕ) (n : ℕ) (clauses : List ℕ) (c : ℕ) : Type 0 where
-  pub few : c ≤ 8
-  pub inside : 11 * c ≤ length clauses
-  pub right : (k : ℕ) → k < c → clauseRight (nodeAt nodes) n (storedAt clauses k) ≡ true
-  pub named : (k : ℕ) → k < c → clauseNamed (nodeAt nodes) (headerOf y .names) (storedAt clauses k) ≡ true
-
--- a clause over the copies: "it is broken"
-unfoldable pub brokenIn : List ℕ → List ℕ → StoredClause → Formula
-brokenIn y map d =
-    brokenOf (kindOf (d .kind))
-    (formulaIn y (entryOf map (d .root1))) (bit (d .mask1))
-    (formulaIn y (entryOf map (d .root2))) (bit (d .mask2))
-    (formulaIn y (entryOf map (d .root3))) (bit (d .mask3))
-
-abbrev pub ClauseIn : List ℕ → List ℕ → StoredClause → Type 0
-ClauseIn y map d =
-    PartsIn y (d .kind) (entryOf map (d .root1)) (d .mask1) (entryOf map (d .root2)) (d .mask2) (entryOf map (d .root3)) (d .mask3)
-
--- clause k of the parts of a sheet, and all of them
-unfoldable pub clauseAt : List ℕ → List ℕ → ℕ → Clause
-clauseAt nodes clauses k = clauseOf (nodeAt nodes) (storedAt clauses k)
-
-unfoldable pub clausesAt : List ℕ → List ℕ → ℕ → List Clause
-clausesAt nodes clauses c = inOrder c (clauseAt nodes clauses)
-
--- the most nodes a requirement takes
-unfoldable pub requirementCost : List ℕ → ℕ → ℕ → ℕ → ℕ
-requirementCost nodes n c m = copyCosts (nodeAt nodes) n + c * (11 + 6 * m) + 2

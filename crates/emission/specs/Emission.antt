@@ -1,18 +1,16 @@
 -- What the emitting functions promise one another. The writer's whole state is in the lent bytes: bytes 6–7 count the nodes so far.
-use Prim.Native.Nat.{ℕ, _+_, _*_, _^_, _≤_, _<_}
-use mathlib.Core.Bool.{true, cond}
+use Prim.Native.Nat.{ℕ, _+_, _*_, _≤_, _<_}
+use mathlib.Core.Bool.{true}
 use mathlib.Core.List.{List}
 use mathlib.Core.Path.{_≡_}
-use lib.Dec.{ltb}
 use lib.ListN.{length, getD, drop}
-use Rattle.semantics.specs.Proposition.{Proposition, name, bit}
+use Rattle.semantics.specs.Proposition.{Proposition, name}
 use Rattle.semantics.specs.Formula.{Formula, equal, scount}
 use Rattle.semantics.specs.Translation.{anywhere, extended, nothing}
 use Rattle.stored.specs.declared.Node.{Node}
 use Rattle.stored.specs.Bytes.{word}
 use Rattle.stored.specs.Node.{emittedSorts, sortOf, aUse, bUse, fieldsRight, operandRight, operandsRight}
 use Rattle.stored.specs.Tree.{propositionAt, formulaAt}
-use Rattle.stored.specs.Clause.{partsUsed}
 use Rattle.stored.specs.Sheet.{headerOf}
 use Rattle.stored.specs.Written.{nodeIn, NodeFits, emittedLength}
 
@@ -109,25 +107,3 @@ pub record Shared (y : List ℕ) (j : ℕ) : Type 0 where
 
 abbrev pub Ready : List ℕ → Type 0
 Ready y = Shared y (headerOf y .names)
-
--- how many nodes `placedName` and `placed` take over the formula placed
-unfoldable pub placedCost : ℕ → ℕ → ℕ → ℕ
-placedCost u before names = cond (bit names u) (cond (bit before u) 1 2) 0
-
-unfoldable pub placedCosts : ℕ → ℕ → ℕ
-placedCosts before names = placedCost 2 before names + placedCost 1 before names + placedCost 0 before names
-
--- a part: formula node f with the names of a mask
-pub record PartIn (y : List ℕ) (f mask : ℕ) : Type 0 where
-  pub root : Formed y f
-  pub small : mask < 2 ^ headerOf y .names
-
--- the parts that a type uses
-pub record PartsIn (y : List ℕ) (kind f₁ m₁ f₂ m₂ f₃ m₃ : ℕ) : Type 0 where
-  pub part1 : ltb 0 (partsUsed kind) ≡ true → PartIn y f₁ m₁
-  pub part2 : ltb 1 (partsUsed kind) ≡ true → PartIn y f₂ m₂
-  pub part3 : ltb 2 (partsUsed kind) ≡ true → PartIn y f₃ m₃
-
--- the most nodes a clause takes, without the `or` that joins it to the others
-unfoldable pub clauseCost : ℕ → ℕ
-clauseCost m = 10 + 6 * m

@@ -1,8 +1,6 @@
-// Writes the nodes of an emitted formula: those that all sheets share, the sheet's own, each clause, and the requirement.
-pub mod clause;
+// Writes the nodes of an emitted formula: one more node, those that all sheets share, drawings told by other formulas, and the
+// sheet's own nodes.
 pub mod copy;
 pub mod drawing;
 pub mod node;
-pub mod placing;
-pub mod requirement;
 pub mod shared;

@@ -1,4 +1,5 @@
-// The nodes that are written once, at fixed numbers.
+// The nodes that are written once, at fixed numbers: three lengths, then for each name u the proposition that it is marked, node
+// 3 + 2u, and that it is marked once on the interval, node 4 + 2u.
 use crate::node;
 use stored::Node;
 ghost use mathlib.Core.Path.{_≡_};
@@ -6,10 +7,13 @@ ghost use Prim.Native.Nat.{_+_, _*_, _<_};
 ghost use Rattle.stored.specs.Sheet.{headerOf};
 ghost use Rattle.emission.specs.Emission.{count, Good, Step, Shared, Ready};
 
+// Length 0 or more: any interval.
 pub const ANYWHERE: usize = 0;
 
+// Length above 0.
 pub const EXTENDED: usize = 1;
 
+// Length below 0: no interval.
 pub const NOTHING: usize = 2;
 
 fn put_lengths(out: &mut [u8])
@@ -45,7 +49,7 @@ fn put_lengths(out: &mut [u8])
     );
 }
 
-// Name u, and its one mark.
+// Name u, and that it has one mark.
 fn put_name(out: &mut [u8], u: usize)
     requires { ⌜ (Shared (now out) u) × (count (now out) ≡ 3 + 2 * u) × (u < headerOf (now out) .names) ⌝ }
     ensures { λ _. ⌜ (Shared (now (out .exit)) (u + 1)) × (count (now (out .exit)) ≡ 3 + 2 * (u + 1)) × (Step (now (out .entry)) (now (out .exit)) 2) ⌝ }

@@ -14,3 +14,4 @@ pub mod Joined
 pub mod Agreement
 pub mod Verdict
 pub mod Reading
+pub mod Closed

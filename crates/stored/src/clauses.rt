@@ -11,8 +11,10 @@ ghost use Rattle.stored.specs.Node.{nodeAt};
 ghost use Rattle.stored.specs.Reach.{reachTable};
 ghost use Rattle.stored.specs.Clause.{storedAt, partsUsed, partRight, clauseRight, clauseRightAt, partCovered, clauseCovered, clauseCoveredAt};
 
+// How many parts each type uses; there is no type 0.
 const PARTS: [usize; 7] = [0, 1, 2, 1, 2, 3, 3];
 
+// Clause k of a clause part.
 pub fn stored_at(clauses: &[u8], k: usize) -> StoredClause
     requires { ⌜ 11 * k + 11 ≤ length (now clauses) ⌝ }
     ensures { λ r. ⌜ r ≡ storedAt (now (clauses .entry)) k ⌝ }
@@ -45,6 +47,7 @@ pub fn parts_used(kind: usize) -> usize
     if kind < 7 { PARTS[kind] } else { 0 }
 }
 
+// A used root is a formula node; an unused root and mask are zero.
 fn part_ok(nodes: &[u8], n: usize, used: bool, root: usize, mask: usize) -> bool
     requires { ⌜ 6 * n ≤ length (now nodes) ⌝ }
     ensures { λ r. ⌜ r ≡ partRight (nodeAt (now (nodes .entry))) n used root mask ⌝ }
@@ -85,6 +88,7 @@ pub fn clauses_ok(nodes: &[u8], n: usize, clauses: &[u8], c: usize) -> bool
     ok
 }
 
+// The mask has bits for names below m only and, if the part is used, for every name that its root reaches.
 fn part_covered(table: &[usize], m: usize, used: bool, root: usize, mask: usize) -> bool
     requires { ⌜ m < 64 ⌝ }
     ensures { λ r. ⌜ r ≡ partCovered (now (table .entry)) m used root mask ⌝ }

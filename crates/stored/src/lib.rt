@@ -35,11 +35,13 @@ pub struct Header {
     pub clauses: usize,
 }
 
+// An accepted sheet's header, or the number of the refusal.
 pub enum SheetAnswer {
     Accepted(Header),
     Refused(usize),
 }
 
+// How many cycles an accepted trace has, or the number of the refusal.
 pub enum TraceAnswer {
     Cycles(usize),
     Refused(usize),

@@ -7,6 +7,7 @@ ghost use lib.ListN.{length};
 ghost use Rattle.stored.specs.Node.{nodeAt};
 ghost use Rattle.stored.specs.Reach.{nameMask, fieldReach, nodeReach, entryOf, reachTable};
 
+// Name u as a mask.
 const NAMES: [usize; 3] = [1, 2, 4];
 
 fn name_mask(u: usize) -> usize
@@ -15,12 +16,14 @@ fn name_mask(u: usize) -> usize
     if u < 3 { NAMES[u] } else { 0 }
 }
 
+// Entry i of a table, 0 past its end.
 pub fn entry_of(table: &[usize], i: usize) -> usize
     ensures { λ r. ⌜ r ≡ entryOf (now (table .entry)) i ⌝ }
 {
     if i < table.len() { table[i] } else { 0 }
 }
 
+// The names that a field used so reaches, by the table of earlier nodes.
 fn field_reach(table: &[usize], what: usize, v: usize) -> usize
     ensures { λ r. ⌜ r ≡ fieldReach (entryOf (now (table .entry))) what v ⌝ }
 {

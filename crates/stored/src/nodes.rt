@@ -7,6 +7,7 @@ ghost use lib.ListN.{length};
 ghost use Rattle.stored.specs.Bytes.{everyBelow};
 ghost use Rattle.stored.specs.Node.{nodeAt, requirementSorts, sortOf, qUse, aUse, bUse, fieldRight, fieldsRight, nodeRight, sortBelow, operandRight, operandsRight, isFormulaNode};
 
+// The sort of each op in kind 1: 0 none, 1 proposition, 2 formula.
 const SORTS: [usize; 32] = [
     0,
     1,
@@ -42,6 +43,8 @@ const SORTS: [usize; 32] = [
     0,
 ];
 
+// What each op uses field q for, and then a and b: 0 nothing, 1 a signal, 2 a name, 3 a comparison, 4 a symbol, 5 two names,
+// 6 a number, 7 a proposition node, 8 a formula node.
 const Q_USES: [usize; 32] = [
     0,
     0,
@@ -171,6 +174,7 @@ pub fn b_use(op: usize) -> usize
     if op < 32 { B_USES[op] } else { 0 }
 }
 
+// Node i of a node part.
 pub fn node_at(nodes: &[u8], i: usize) -> Node
     requires { ⌜ 6 * i + 6 ≤ length (now nodes) ⌝ }
     ensures { λ r. ⌜ r ≡ nodeAt (now (nodes .entry)) i ⌝ }
@@ -183,6 +187,7 @@ pub fn node_at(nodes: &[u8], i: usize) -> Node
     Node { op, q, a, b }
 }
 
+// A field's value v fits what it is used for, with s signals and m names.
 fn field_ok(s: usize, m: usize, what: usize, v: usize) -> bool
     ensures { λ r. ⌜ r ≡ fieldRight s m what v ⌝ }
 {
@@ -223,6 +228,7 @@ pub fn nodes_ok(nodes: &[u8], n: usize, s: usize, m: usize) -> bool
     ok
 }
 
+// The sort of node v if it stands before node i, else 0.
 fn sort_below(nodes: &[u8], i: usize, v: usize) -> usize
     requires { ⌜ 6 * i ≤ length (now nodes) ⌝ }
     ensures { λ r. ⌜ r ≡ sortBelow requirementSorts (nodeAt (now (nodes .entry))) i v ⌝ }

@@ -33,10 +33,11 @@ use Rattle.translator.specs.Answer.{translateRefusal, translateAnswer, t
 use Rattle.emission.specs.Bound.{drawings, nodeBound}
 use Rattle.translator.specs.Translated.{FormulaOf, Translated}
 use Rattle.emission.specs.Emission.{count, formulaIn, Good, Step, Has, Emits}
-use Rattle.emission.specs.Copying.{copyCosts, NodesIn, ClausesIn, clauseAt, clausesAt, requirementCost}
+use Rattle.emission.specs.Copying.{copyCosts, NodesIn}
+use Rattle.clauses.specs.Clauses.{ClausesIn, clauseAt, clausesAt, requirementCost}
 use Rattle.emission.proofs.Steps.{steps, operands-same}
-use Rattle.emission.proofs.Joining.{joined-bound}
-use Rattle.emission.proofs.Closed.{translation-closed}
+use Rattle.clauses.proofs.Joining.{joined-bound}
+use Rattle.semantics.proofs.Closed.{translation-closed}
 
 -- ---- an empty kind 2 sheet
 module _ (x y : List ℕ) (s m : ℕ) (big : 8192 ≤ length x) (e : y ≡ putHeader x s m 0) where

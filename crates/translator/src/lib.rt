@@ -1,7 +1,7 @@
 // The translator: writes the formula of a sheet's requirement as a kind 2 sheet.
 pub mod print;
 
-use emission::requirement;
+use clauses::requirement;
 use emission::shared;
 use stored::SheetAnswer;
 use stored::sheet;

@@ -1,0 +1,16 @@
+use native.Mathlib.Omega.{arith}
+use mathlib.Core.Path.{refl}
+use Rattle.clauses.proofs.placing.has.Statement.{statement}
+use Rattle.clauses.proofs.placing.has.Tie as tie
+use Rattle.semantics.specs.Proposition.{bit}
+use Rattle.stored.specs.Reach.{joint}
+
+shr : tie.Need-shr-result
+shr c = omega arith
+
+returns : tie.Need-returns
+unfolding bit joint
+returns c = refl
+
+pub has-spec : {M : Type 1} → statement M
+has-spec = tie.close (tie.spec shr returns)

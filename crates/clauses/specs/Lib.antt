@@ -1,0 +1,2 @@
+-- What the functions that write clauses promise one another.
+pub mod Clauses

@@ -1,0 +1,58 @@
+// The formula of a requirement: some assumption is broken, or no commitment is.
+use crate::clause;
+use emission::copy;
+use emission::node;
+use emission::shared;
+use stored::Node;
+use stored::StoredClause;
+use stored::clauses;
+use stored::masks;
+ghost use mathlib.Core.Path.{_≡_};
+ghost use Prim.Native.Nat.{_+_, _≤_};
+ghost use Rattle.semantics.specs.Translation.{translation};
+ghost use Rattle.stored.specs.Sheet.{headerOf};
+ghost use Rattle.emission.specs.Emission.{mostNodes, count, Emits, Ready};
+ghost use Rattle.clauses.specs.Clauses.{clauseCost};
+ghost use Rattle.emission.specs.Copying.{NodesIn};
+ghost use Rattle.clauses.specs.Clauses.{ClausesIn, ClauseIn, brokenIn, clausesAt, requirementCost};
+
+fn put_clause(out: &mut [u8], map: &[usize], d: StoredClause) -> usize
+    requires { ⌜ (Ready (now out)) × (count (now out) + 40 ≤ mostNodes) × (1 ≤ d .kind) × (d .kind ≤ 6) × (ClauseIn (now out) (now map) d) ⌝ }
+    ensures { λ r. ⌜ Emits (now (out .entry)) (now (out .exit)) r (clauseCost (headerOf (now (out .entry)) .names)) (brokenIn (now (out .entry)) (now (map .entry)) d) ⌝ }
+{
+    let f1 = masks::entry_of(map, d.root1);
+    let f2 = masks::entry_of(map, d.root2);
+    let f3 = masks::entry_of(map, d.root3);
+    clause::put_kind(out, d.kind, f1, d.mask1, f2, d.mask2, f3, d.mask3)
+}
+
+// The node and clause parts of a sheet with n nodes and c clauses; the root is the last node.
+pub fn put_requirement(out: &mut [u8], nodes: &[u8], n: usize, clauses: &[u8], c: usize) -> usize
+    requires { ⌜ (Ready (now out)) × (count (now out) ≤ 9) × (NodesIn (now out) (now nodes) n) × (ClausesIn (now out) (now nodes) n (now clauses) c) ⌝ }
+    ensures { λ r. ⌜ (Emits (now (out .entry)) (now (out .exit)) r (requirementCost (now (nodes .entry)) n c (headerOf (now (out .entry)) .names)) (translation (clausesAt (now (nodes .entry)) (now (clauses .entry)) c))) × (count (now (out .exit)) ≡ r + 1) ⌝ }
+{
+    let map = copy::copy_nodes(out, nodes, n);
+    let mut sides = [shared::NOTHING; 2];
+    let mut k = 0;
+    while k < c {
+        let d = clauses::stored_at(clauses, k);
+        let role = d.role;
+        let broken = put_clause(out, &map, d);
+        let side = sides[role];
+        let joined = node::put_or(out, side, broken);
+        sides[role] = joined;
+        k += 1;
+    }
+    let assumed = sides[0];
+    let committed = sides[1];
+    let kept = node::put_not(out, committed);
+    node::emit(
+        out,
+        Node {
+            op: 22,
+            q: 0,
+            a: assumed,
+            b: kept,
+        },
+    )
+}
