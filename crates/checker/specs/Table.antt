@@ -17,7 +17,7 @@ use Rattle.stored.specs.Tree.{pick, formulaAt}
 use Rattle.tables.specs.Table.{standing}
 use Rattle.checker.specs.declared.table.TableAnswer.{TableAnswer}
 
--- name u is below m only if it is put on one of the n cycles
+-- a name below m is put on one of the n cycles
 unfoldable pub namePlaced : ℕ → ℕ → ℕ → ℕ → Bool
 namePlaced m n u p = not (ltb u m) || ltb p n
 

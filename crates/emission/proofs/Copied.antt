@@ -1,5 +1,5 @@
 -- A node copied by the map stands for the node of the sheet.
-use Prim.Native.Nat.{ℕ, zero, suc, _+_, _*_, _/_, _%_, _≤_, _<_}
+use Prim.Native.Nat.{ℕ, suc, _+_, _*_, _/_, _%_, _≤_, _<_}
 use mathlib.Core.Bool.{Bool, true, false, not, cond, _&&_, _||_, true≢false, false≢true}
 use mathlib.Core.List.{List}
 use mathlib.Core.Logic.{inl, inr}
@@ -14,6 +14,7 @@ use Rattle.semantics.specs.Formula.{Formula, point, stretch, whole, unit, chop,
 use Rattle.semantics.specs.Cycles.{countBelow}
 use Rattle.semantics.specs.Translation.{undrawn}
 use Rattle.semantics.proofs.Tests.{test, and-left, and-right, and-intro}
+use Rattle.semantics.proofs.Cycles.{count-most}
 use Rattle.stored.specs.declared.Node.{Node}
 use Rattle.stored.specs.Bytes.{word, everyBelow}
 use Rattle.stored.specs.Node.{requirementSorts, emittedSorts, sortOf, qUse, aUse, bUse, nodeAt, fieldRight, fieldsRight, operandRight, operandsRight}
@@ -323,26 +324,9 @@ cost-next x i = rw native.Mathlib.Numerals.add-one (go (isDrawing (x i)) (countB
     go true k = omega arith
     go false k = omega arith
 
-count-most : (n : ℕ) (p : ℕ → Bool) → countBelow n p ≤ n
-unfolding countBelow
-count-most zero p = omega arith
-count-most (suc n) p = let rest = count-most n p in go (p n) rest
-  where
-    go : (b : Bool) → countBelow n p ≤ n → countBelow n p + cond b 1 0 ≤ suc n
-    go true h = omega arith
-    go false h = omega arith
-
 pub costs-most : (x : ℕ → Node) (i : ℕ) → copyCosts x i ≤ 12 * i
 unfolding copyCosts
 costs-most x i = omega (arith, count-most i (drawingAt x))
-
-pub cost-most : (n : Node) → copyCost n ≤ 12
-unfolding copyCost
-cost-most n = go (isDrawing n)
-  where
-    go : (b : Bool) → cond b 12 1 ≤ 12
-    go true = omega arith
-    go false = omega arith
 
 -- ---- fields that bytes hold
 pub node-fits : (l : List ℕ) (i : ℕ) → ((k : ℕ) → getD l k 0 < 256) → NodeFits (nodeAt l i)

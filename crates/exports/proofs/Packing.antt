@@ -1,5 +1,5 @@
 -- Packed numbers fit in 64 bits, and are unpacked again.
-use Prim.Native.Nat.{ℕ, zero, suc, _+_, _*_, _/_, _%_, _≤_, _<_}
+use Prim.Native.Nat.{ℕ, _+_, _*_, _/_, _%_, _≤_, _<_}
 use mathlib.Core.Bool.{Bool, true, false, cond, _&&_}
 use mathlib.Core.List.{List}
 use mathlib.Core.Path.{_≡_, refl, sym, _∙_, ap, subst}
@@ -8,8 +8,8 @@ use native.Mathlib.Omega.{arith}
 use borrow.Author.Tests.{eqb-true}
 use lib.Dec.{eqb, ltb, leb}
 use lib.ListN.{length, take}
-use Rattle.semantics.specs.Cycles.{countBelow}
 use Rattle.semantics.proofs.Tests.{and-right}
+use Rattle.semantics.proofs.Cycles.{count-most}
 use Rattle.stored.specs.Sheet.{headerOf, nodesOf, sized, sheetEnd, sheetRefusal, sheetRules}
 use Rattle.stored.specs.Tree.{pick}
 use Rattle.stored.specs.Emitted.{isEmitted, emittedCounted}
@@ -46,15 +46,6 @@ unpacked (formula.Refused number) =
     let tag : number * 256 % 256 ≡ 0 = omega arith in
     let value : number * 256 / 256 ≡ number = omega arith in
     rw (tag, value)
-
-count-most : (n : ℕ) (p : ℕ → Bool) → countBelow n p ≤ n
-unfolding countBelow
-count-most zero p = omega arith
-count-most (suc n) p = let rest = count-most n p in go (p n) rest
-  where
-    go : (b : Bool) → countBelow n p ≤ n → countBelow n p + cond b 1 0 ≤ suc n
-    go true h = omega arith
-    go false h = omega arith
 
 bound-most : (s : List ℕ) → sheetRefusal s ≡ 0 → nodeBound s ≤ 1025
 unfolding nodeBound drawings

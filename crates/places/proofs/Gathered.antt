@@ -13,7 +13,7 @@ use lib.Seq.{getD-set-same, getD-set-other}
 use borrow.Author.Tests.{leb-true, leb-false, le-leb, lt-leb}
 use Rattle.semantics.specs.Proposition.{bit}
 use Rattle.semantics.specs.Placement.{Names}
-use Rattle.semantics.proofs.Tests.{same, test, and-left, and-right, and-intro, and-comm, and-false, and-false-right}
+use Rattle.semantics.proofs.Tests.{same, test, and-left, and-right, and-intro, and-comm, and-false, and-false-right, or-false}
 use Rattle.rows.specs.Row.{word}
 use Rattle.rows.proofs.Bits.{bit-or}
 use Rattle.rows.proofs.Masks.{cut-bit}
@@ -47,10 +47,6 @@ low-name false b p h = le-leb b 63 (omega arith)
 high-name : (c : Bool) (e p : ℕ) → leb (cond c p 0) e ≡ (not c || leb p e)
 high-name true e p = refl
 high-name false e p = le-leb 0 e (omega arith)
-
-or-none : (a : Bool) → a ≡ (a || false)
-or-none true = refl
-or-none false = refl
 
 split : (n x y : Bool) → n || x && y ≡ ((n || x) && (n || y))
 split true x y = refl
@@ -165,7 +161,7 @@ added-all before after words root names short p0 p1 p2 a =
         | inr q ↦
             let m = leb-false b (firstName (bit names) p0 p1 p2) q in
             ap (λ (x : ℕ). bit x e) (a .rest b (omega arith))
-            ∙ or-none (bit (getD before b 0) e)
+            ∙ sym (or-false (bit (getD before b 0) e))
             ∙ ap (λ (r : Bool). bit (getD before b 0) e || r) (sym (none-later words root names short p0 p1 p2 b e (omega arith) (omega arith)))
       ];
     }

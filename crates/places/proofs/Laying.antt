@@ -21,6 +21,7 @@ use Rattle.stored.specs.Trace.{cyclesOf}
 use Rattle.stored.proofs.Accepted.{cycles-count}
 use Rattle.tables.specs.Table.{standing, rowAt, Tables}
 use Rattle.tables.specs.Ready.{Ready}
+use Rattle.tables.proofs.Fills.{given-words, given-cycles}
 use Rattle.places.specs.declared.task.Task.{Task}
 use Rattle.places.specs.Search.{inside, onInside, shortInside, answered, missed}
 use Rattle.places.specs.Places.{places, numbered, IsLeast}
@@ -34,29 +35,8 @@ use Rattle.places.proofs.Places.{least-fewer, numbered-fewer}
 
 ready-at : {nodes trace reach words words′ : List ℕ} {count n s0 s1 s2 p0 p1 p2 : ℕ} → Ready nodes count trace n reach s0 s1 s2 words
     → p0 < n → p1 < n → p2 < n → length words′ ≡ length words → Ready nodes count trace n reach p0 p1 p2 words′
-ready-at r h0 h1 h2 l =
-    let g = r .given in
-    record {
-      given = record {
-        signals = g .signals;
-        names = g .names;
-        few-signals = g .few-signals;
-        few-names = g .few-names;
-        few-nodes = g .few-nodes;
-        nodes-long = g .nodes-long;
-        fields = g .fields;
-        operands = g .operands;
-        cycles = g .cycles;
-        some-cycles = g .some-cycles;
-        few-cycles = g .few-cycles;
-        trace-long = g .trace-long;
-        inside0 = h0;
-        inside1 = h1;
-        inside2 = h2;
-        words-long = omega (arith, g .words-long);
-      };
-      reached = r .reached;
-    }
+ready-at {words′ = words′} {p0 = p0} {p1 = p1} {p2 = p2} r h0 h1 h2 l =
+    record { given = given-words words′ l (given-cycles p0 p1 p2 h0 h1 h2 (r .given)); reached = r .reached }
 
 module _ {nodes trace reach : List ℕ} {count n : ℕ} where
   pub laid-ready : {stood words : List ℕ} {p0 p1 p2 : ℕ} → Laid nodes count trace n reach stood words → p0 < n → p1 < n → p2 < n

@@ -12,7 +12,7 @@ use Rattle.semantics.specs.Cycles.{someFrom, someIn}
 use Rattle.semantics.specs.Proposition.{bit}
 use Rattle.semantics.specs.Placement.{Names, noNames, Placement, unplaced, moved, placeName}
 use Rattle.semantics.specs.Clause.{Kind, pref, init, anti, implies, follows, triggers}
-use Rattle.semantics.proofs.Tests.{same, test}
+use Rattle.semantics.proofs.Tests.{same, test, or-false}
 use Rattle.semantics.proofs.Cycles.{some-intro, some-elim, some-none, some-cong}
 use Rattle.semantics.proofs.Placement.{moved-same, not-near}
 use Rattle.tables.specs.Table.{standing}
@@ -132,12 +132,8 @@ pub adds-start : (n low : ℕ) (rows : List ℕ) (q : ℕ → ℕ → ℕ → Bo
 adds-start n low rows q =
     record {
       adds = λ b e l h.
-          sym (right (testOf rows b e)) ∙ ap (λ (r : Bool). testOf rows b e || r) (sym (some-none low low (λ t. q t b e) (λ t x y z. absurd (omega arith))));
+          sym (or-false (testOf rows b e)) ∙ ap (λ (r : Bool). testOf rows b e || r) (sym (some-none low low (λ t. q t b e) (λ t x y z. absurd (omega arith))));
     }
-  where
-    right : (a : Bool) → a || false ≡ a
-    right true = refl
-    right false = refl
 
 pub adds-turn : (n low t : ℕ) (before middle after : List ℕ) (q : ℕ → ℕ → ℕ → Bool) → low ≤ t → Adds n before middle (λ b e. someFrom low t (λ t. q t b e))
     → Adds n middle after (q t) → Adds n before after (λ b e. someFrom low (t + 1) (λ t. q t b e))

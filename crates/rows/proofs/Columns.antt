@@ -7,16 +7,13 @@ use lib.Dec.{leb, eqb}
 use Rattle.semantics.specs.Cycles.{someIn, everyFrom, countFrom}
 use Rattle.semantics.specs.Proposition.{bit}
 use Rattle.semantics.specs.Formula.{Comparison, compared, Symbol, low, high, either, lowStretch, highStretch, eitherStretch, steady, drawnOn}
-use Rattle.rows.specs.Row.{word, row}
+use Rattle.rows.specs.Row.{row}
 use Rattle.semantics.proofs.Cycles.{some-cong, every-cong, count-cong}
-use Rattle.rows.proofs.Rows.{word-bit, row-ext}
+use Rattle.rows.proofs.Rows.{row-ext}
 
 -- bit t of the column is p at t, of n cycles
 abbrev pub Column : ℕ → ℕ → (ℕ → Bool) → Type 0
 Column n column p = (t : ℕ) → t < n → bit column t ≡ p t
-
-pub word-column : (n : ℕ) (p : ℕ → Bool) → Column n (word n p) p
-word-column n p t l = word-bit n p t l
 
 drawn-cong : (s : Symbol) (p q : ℕ → Bool) (b e : ℕ) → ((t : ℕ) → b ≤ t → t < suc e → p t ≡ q t) → b ≤ e → drawnOn s p b e ≡ drawnOn s q b e
 unfolding drawnOn

@@ -5,7 +5,7 @@ use mathlib.Core.Path.{_≡_, sym, ap, ap₂, _∙_}
 use native.Mathlib.Nat.{lt-of-le-of-lt}
 use native.Mathlib.Omega.{arith}
 use lib.Bits.{bitAnd, and-le-l}
-use Rattle.semantics.specs.Cycles.{someBelow, someFrom, someIn}
+use Rattle.semantics.specs.Cycles.{someBelow, someFrom}
 use Rattle.semantics.specs.Proposition.{bit}
 use Rattle.rows.specs.Row.{word, row, shortestOf}
 use Rattle.semantics.proofs.Tests.{same, both, and-left, and-right}
@@ -55,9 +55,6 @@ shortest-row n h b l =
     let x = s .high in
     word-bit 64 (λ e. bit (row n h b) e && not (someBelow e (bit (row n h b)))) e (omega arith)
     ∙ ap₂ (λ (y z : Bool). y && not z) (row-at n h b e (s .low) (s .high)) (row-some n h b e (omega arith)) ∙ s .ok)
-
-pub none-row : (n : ℕ) (h : ℕ → ℕ → Bool) (b k : ℕ) → k < n → not (someBelow (suc k) (bit (row n h b))) ≡ not (someIn b k (h b))
-none-row n h b k l = ap not (row-some n h b (suc k) l)
 
 -- bit k of the cycles before the least
 pub before-bit : (set k : ℕ) → k < 64 → bit (word 64 (λ e. not (someBelow (suc e) (bit set)))) k ≡ not (someBelow (suc k) (bit set))

@@ -7,12 +7,9 @@ use lib.Dec.{leb, eqb}
 use Rattle.semantics.specs.Cycles.{someIn, everyFrom, everyIn, countFrom, countIn}
 use Rattle.semantics.specs.Proposition.{Proposition, Trace, Marks, bit, signalAt, holdsAt}
 use Rattle.semantics.specs.Formula.{Formula, point, stretch, whole, unit, chop, star, slen, scount, sdur, drawn, at, gap, conjunction, disjunction, holds, Comparison, compared, Symbol, drawnOn}
-use Rattle.semantics.specs.Clause.{Part, shortest, on}
-use Rattle.semantics.specs.Placement.{Placement}
-use Rattle.rows.specs.Row.{row, joined, starred, shortestOf}
+use Rattle.rows.specs.Row.{row, joined, starred}
 use Rattle.rows.proofs.Columns.{Column, held-of, point-of, unit-of, counted-of, drawn-of, gap-of, marked-of}
 use Rattle.rows.proofs.Joins.{chop-row, star-row}
-use Rattle.rows.proofs.Cuts.{shortest-row}
 use Rattle.rows.proofs.Rows.{row-and, row-or}
 use lib.Bits.{bitAnd, bitOr}
 
@@ -78,8 +75,3 @@ module _ (n : ℕ) (small : n ≤ 64) (σ : Trace) (μ : Marks) (b : ℕ) (lb : 
   pub disjunction-holds : (f g : Formula) → bitOr (row n (holds f σ μ) b) (row n (holds g σ μ) b) ≡ row n (holds (disjunction f g) σ μ) b
   unfolding holds
   disjunction-holds f g = row-or n (holds f σ μ) (holds g σ μ) b
-
-  -- Ξ
-  pub shortest-holds : (d : Part) (ν : Placement) → shortestOf (row n (on d σ ν) b) ≡ row n (shortest d σ ν) b
-  unfolding shortest
-  shortest-holds d ν = shortest-row n (on d σ ν) b small

@@ -14,7 +14,7 @@ use Rattle.semantics.specs.Clause.{Part, Kind, pref, init, anti, implies
 use Rattle.semantics.specs.Verdict.{hasRole, failsAs, someFails, requirement}
 use Rattle.semantics.specs.Reach.{fits, partsFit, clauseFits, allFit}
 use Rattle.semantics.specs.Translation.{undrawn, placed, once, unansweredOf, brokenOf, brokenClause, joinBroken, translation}
-use Rattle.semantics.proofs.Tests.{same, and-intro, and-left, and-right}
+use Rattle.semantics.proofs.Tests.{same, and-intro, and-left, and-right, or-false}
 use Rattle.semantics.proofs.Names.{not-none, listed-too, union-left, listed-left, listed-right}
 use Rattle.semantics.proofs.Cycles.{some-cong}
 use Rattle.semantics.proofs.Placed.{Stands, stands-narrower, placed-holds}
@@ -226,11 +226,7 @@ module _ (σ : Trace) (positive : 0 < length σ) where
   joined-is : (r : Role) (cs : List Clause) (f : Formula) (p : Bool) → allFit cs ≡ true → Says f σ unmarked 0 last p
       → Says (joinBroken r f cs) σ unmarked 0 last (p || someFails r cs σ)
   unfolding allFit joinBroken someFails failsAs
-  joined-is r [] f p w s = says-as (sym (right p)) s
-    where
-      right : (a : Bool) → a || false ≡ a
-      right true = refl
-      right false = refl
+  joined-is r [] f p w s = says-as (sym (or-false p)) s
   joined-is r (c ∷ cs) f p w s =
       go (hasRole r c) (λ g q. joined-is r cs g q (and-right (clauseFits c) (allFit cs) w))
     where

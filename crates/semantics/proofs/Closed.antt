@@ -15,7 +15,7 @@ use Rattle.semantics.specs.Verdict.{hasRole}
 use Rattle.semantics.specs.Reach.{propositionWithin, with, within, fits, partsFit, clauseFits, allFit}
 use Rattle.semantics.specs.Translation.{anywhere, extended, nothing, undrawnSymbol, undrawnMark, undrawnGap, undrawn, onceName, placedName, placed, once, shortestOf, unansweredOf, brokenOf, brokenClause, joinBroken, translation}
 use Rattle.semantics.proofs.Tests.{both, and-left, and-right, or-left, or-right, or-elim}
-use Rattle.semantics.proofs.Names.{listed-is}
+use Rattle.semantics.proofs.Names.{listed-is, listed-too}
 
 -- the names of one set are names of another
 abbrev Has : Names → Names → Type 0
@@ -206,16 +206,13 @@ unfolding noNames
 none u e = absurd (false≢true e)
 
 -- a name listed in one set and in another is listed in the other
-listed-in : (a b : Names) (u : ℕ) → listed a u ≡ true → b u ≡ true → listed b u ≡ true
-listed-in a b u e f = listed-intro b u (listed-low a u e) f
-
 left-listed : (a b : Names) → Has (listed a) (listed (union a b))
 unfolding union
-left-listed a b u e = listed-in a (union a b) u e (or-left (a u) (b u) (listed-is a u e))
+left-listed a b u e = listed-too a (union a b) u e (or-left (a u) (b u) (listed-is a u e))
 
 right-listed : (a b : Names) → Has (listed b) (listed (union a b))
 unfolding union
-right-listed a b u e = listed-in b (union a b) u e (or-right (a u) (b u) (listed-is b u e))
+right-listed a b u e = listed-too b (union a b) u e (or-right (a u) (b u) (listed-is b u e))
 
 unanswered-within : (d₁ d₂ d₃ : Part) → fits d₂ ≡ true → fits d₃ ≡ true
     → within (union (listed (union (d₁ .names) (d₃ .names))) noNames) (unansweredOf (d₁ .names) (undrawn (d₂ .formula)) (d₂ .names) (undrawn (d₃ .formula)) (d₃ .names)) ≡ true
@@ -226,7 +223,7 @@ unanswered-within d₁ d₂ d₃ w₂ w₃ =
     let third : Has (listed (d₃ .names)) K = λ u e. own Θ noNames u (right-listed (d₁ .names) (d₃ .names) u e) in
     let short = part-within d₃ K w₃ third in
     both (once-within K (d₃ .names) _ third (both short (both short refl)))
-    (both (placed-part K Θ d₂ w₂ (λ u e b. own Θ noNames u (listed-in (d₂ .names) Θ u e b))) refl)
+    (both (placed-part K Θ d₂ w₂ (λ u e b. own Θ noNames u (listed-too (d₂ .names) Θ u e b))) refl)
 
 broken-within : (κ : Kind) (d₁ d₂ d₃ : Part) → partsFit κ d₁ d₂ d₃ ≡ true
     → within noNames (brokenOf κ (undrawn (d₁ .formula)) (d₁ .names) (undrawn (d₂ .formula)) (d₂ .names) (undrawn (d₃ .formula)) (d₃ .names)) ≡ true
@@ -236,14 +233,14 @@ broken-within init d₁ d₂ d₃ w =
     both
     (placed-within noNames (d₂ .names) noNames _ (λ u e b. b)
     (both (part-within d₂ _ (and-right (fits d₁) (fits d₂) w) (own (d₂ .names) noNames))
-    (both (placed-part _ (d₂ .names) d₁ (and-left (fits d₁) (fits d₂) w) (λ u e b. own (d₂ .names) noNames u (listed-in (d₁ .names) (d₂ .names) u e b))) refl)))
+    (both (placed-part _ (d₂ .names) d₁ (and-left (fits d₁) (fits d₂) w) (λ u e b. own (d₂ .names) noNames u (listed-too (d₁ .names) (d₂ .names) u e b))) refl)))
     refl
 broken-within anti d₁ d₂ d₃ w = both (placed-part noNames noNames d₁ w (λ u e b. b)) refl
 broken-within implies d₁ d₂ d₃ w =
     both
     (placed-within noNames (d₁ .names) noNames _ (λ u e b. b)
     (both (part-within d₁ _ (and-left (fits d₁) (fits d₂) w) (own (d₁ .names) noNames))
-    (placed-part _ (d₁ .names) d₂ (and-right (fits d₁) (fits d₂) w) (λ u e b. own (d₁ .names) noNames u (listed-in (d₂ .names) (d₁ .names) u e b)))))
+    (placed-part _ (d₁ .names) d₂ (and-right (fits d₁) (fits d₂) w) (λ u e b. own (d₁ .names) noNames u (listed-too (d₂ .names) (d₁ .names) u e b)))))
     refl
 broken-within follows d₁ d₂ d₃ w =
     let v = and-right (fits d₁) (fits d₂ && fits d₃) w in

@@ -101,6 +101,15 @@ count-cong b e p q f =
     (λ i h. and-cong (leb b i) (p i) (q i) (λ l. f i (leb-true b i l) h))
 
 -- the lowest cycle first
+pub count-most : (n : ℕ) (p : ℕ → Bool) → countBelow n p ≤ n
+unfolding countBelow
+count-most zero p = omega arith
+count-most (suc n) p = let rest = count-most n p in go (p n) rest
+  where
+    go : (b : Bool) → countBelow n p ≤ n → countBelow n p + cond b 1 0 ≤ suc n
+    go true h = omega arith
+    go false h = omega arith
+
 pub count-first : (n : ℕ) (p : ℕ → Bool) → countBelow (suc n) p ≡ cond (p 0) 1 0 + countBelow n (λ i. p (suc i))
 unfolding countBelow
 count-first zero p = omega arith

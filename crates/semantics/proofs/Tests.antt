@@ -61,6 +61,10 @@ pub and-false-right : (a b : Bool) → b ≡ false → a && b ≡ false
 and-false-right true b h = h
 and-false-right false b h = refl
 
+pub or-false : (a : Bool) → a || false ≡ a
+or-false true = refl
+or-false false = refl
+
 pub and-true-right : (a : Bool) → a && true ≡ a
 and-true-right true = refl
 and-true-right false = refl

@@ -26,10 +26,10 @@ use Rattle.stored.proofs.Made.{earlier-at, earlier-not, earlier-wider, 
 use Rattle.stored.proofs.Tree.{operands, proposition-cases, formula-cases, proposition-law, formula-law, is-proposition, is-formula}
 
 -- tests of Bools and of masks below 8
-eachBool : (Bool → Bool) → Bool
+unfoldable pub eachBool : (Bool → Bool) → Bool
 eachBool p = p true && p false
 
-each-at : (p : Bool → Bool) → eachBool p ≡ true → (b : Bool) → p b ≡ true
+pub each-at : (p : Bool → Bool) → eachBool p ≡ true → (b : Bool) → p b ≡ true
 unfolding eachBool
 each-at p h true = and-left (p true) (p false) h
 each-at p h false = and-right (p true) (p false) h
@@ -65,10 +65,6 @@ covers-joint r t names p q =
     (names 0))
     (names 1))
     (names 2))
-
-pub covers-zero : (names : Names) → covers 0 names ≡ true
-unfolding covers covers₃ bit
-covers-zero names = refl
 
 and-all : (a : Bool) → (a && true) ≡ a
 and-all true = refl

@@ -8,7 +8,7 @@ use native.Mathlib.Omega.{arith}
 use borrow.Author.Tests.{ltb-true, ltb-false}
 use lib.Dec.{ltb}
 use lib.ListN.{length, getD, set, take, drop, length-set}
-use lib.Seq.{sets, length-sets, getD-set-same, getD-set-other, getD-drop, getD-take, take-set-le, drop-set-lt}
+use lib.Seq.{sets, length-sets, getD-set-same, getD-set-other, getD-drop, getD-take, drop-set-lt}
 use Rattle.stored.specs.declared.Node.{Node}
 use Rattle.stored.specs.Bytes.{word}
 use Rattle.stored.specs.Node.{nodeAt}
@@ -26,10 +26,6 @@ pub getD-after : (l : List ℕ) (p : ℕ) (vs : List ℕ) (k : ℕ) → p + leng
 getD-after l p [] k h = refl
 getD-after l p (v ∷ vs) k h =
     getD-after (set l p v) (suc p) vs k (omega arith) ∙ getD-set-other l p k v 0 (λ e. omega arith)
-
-pub take-before : (l : List ℕ) (p : ℕ) (vs : List ℕ) (n : ℕ) → n ≤ p → take n (sets l p vs) ≡ take n l
-take-before l p [] n h = refl
-take-before l p (v ∷ vs) n h = take-before (set l p v) (suc p) vs n (omega arith) ∙ take-set-le n l p v h
 
 pub drop-after : (l : List ℕ) (p : ℕ) (vs : List ℕ) (n : ℕ) → p + length vs ≤ n → drop n (sets l p vs) ≡ drop n l
 drop-after l p [] n h = refl
@@ -80,11 +76,6 @@ module _ (s : List ℕ) (i : ℕ) (x : Node) where
   unfolding putNode
   put-length = length-sets s (9 + 6 * i) (nodeBytes x)
 
-  -- the bytes before and after it
-  pub put-front : (n : ℕ) → n ≤ emittedLength i → take n (putNode s i x) ≡ take n s
-  unfolding putNode
-  put-front n h = take-before s (9 + 6 * i) (nodeBytes x) n h
-
   pub put-back : (n : ℕ) → emittedLength (i + 1) ≤ n → drop n (putNode s i x) ≡ drop n s
   unfolding putNode nodeBytes
   put-back n h = drop-after s (9 + 6 * i) (nodeBytes x) n (omega arith)
@@ -124,14 +115,6 @@ module _ (s : List ℕ) (i : ℕ) (x : Node) where
   pub put-other : (j : ℕ) → (j ≡ i → ⊥) → nodeIn (putNode s i x) j ≡ nodeIn s j
   unfolding nodeIn
   put-other j other = node-same (drop 9 (putNode s i x)) (drop 9 s) j (byte-other j other)
-
-  pub put-header-same : headerOf (putNode s i x) ≡ headerOf s
-  unfolding putNode
-  put-header-same = header-same (putNode s i x) s (λ k h. getD-before s (9 + 6 * i) (nodeBytes x) k (omega arith))
-
-  pub put-byte-same : (k : ℕ) → k < 9 → getD (putNode s i x) k 0 ≡ getD s k 0
-  unfolding putNode
-  put-byte-same k h = getD-before s (9 + 6 * i) (nodeBytes x) k (omega arith)
 
 -- a kind 2 header
 module _ (out : List ℕ) (s m n : ℕ) where

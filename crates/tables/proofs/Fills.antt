@@ -198,14 +198,6 @@ given-cycles q0 q1 q2 h0 h1 h2 g =
       words-long = g .words-long;
     }
 
-pub ready-words : {nodes : List ℕ} {count : ℕ} {trace : List ℕ} {n : ℕ} {reach : List ℕ} {p0 p1 p2 : ℕ} {old : List ℕ} (new : List ℕ) → length new ≡ length old
-    → Ready nodes count trace n reach p0 p1 p2 old → Ready nodes count trace n reach p0 p1 p2 new
-ready-words new e r = record { given = given-words new e (r .given); reached = r .reached }
-
-pub ready-cycles : {nodes : List ℕ} {count : ℕ} {trace : List ℕ} {n : ℕ} {reach : List ℕ} {p0 p1 p2 : ℕ} {words : List ℕ} (q0 q1 q2 : ℕ) → q0 < n → q1 < n → q2 < n
-    → Ready nodes count trace n reach p0 p1 p2 words → Ready nodes count trace n reach q0 q1 q2 words
-ready-cycles q0 q1 q2 h0 h1 h2 r = record { given = given-cycles q0 q1 q2 h0 h1 h2 (r .given); reached = r .reached }
-
 -- the pass over the nodes
 module _ {x : ℕ → Node} {count : ℕ} {σ : Trace} {n : ℕ} {ν : Placement} {reach : List ℕ} {moved : ℕ} where
   pub sofar-none : (words : List ℕ) → length σ ≡ n → Kept x count σ ν reach moved words → Sofar x count σ n ν reach moved 0 words

@@ -1,22 +1,20 @@
 -- What a fill makes of a node from right words of its operands is the node's table.
-use Prim.Native.Nat.{ℕ, suc, _+_, _-_, _/_, _%_, _^_, _≤_, _<_}
-use mathlib.Core.Bool.{Bool, true, false, not, _&&_, _||_}
+use Prim.Native.Nat.{ℕ, _-_, _/_, _%_, _^_, _≤_, _<_}
+use mathlib.Core.Bool.{Bool, true, false}
 use mathlib.Core.List.{List}
 use mathlib.Core.Path.{_≡_, refl, sym, _∙_, ap, ap₂}
 use native.Mathlib.Omega.{arith}
 use lib.Bits.{bitAnd, bitOr}
-use lib.Dec.{leb, ltb, eqb}
+use lib.Dec.{ltb}
 use lib.Pow.{pow-pos}
-use Rattle.semantics.specs.Cycles.{someIn, everyFrom, everyIn, countFrom, countIn}
 use Rattle.semantics.specs.Proposition.{Proposition, bit, signalAt, holdsAt}
-use Rattle.semantics.specs.Formula.{Formula, Symbol, low, high, either, lowStretch, highStretch, eitherStretch, steady, compared, drawnOn, holds}
+use Rattle.semantics.specs.Formula.{Formula, holds}
 use Rattle.semantics.specs.Placement.{Placement, marks}
 use Rattle.semantics.proofs.Tests.{and-true-right}
-use Rattle.semantics.proofs.Cycles.{some-cong, every-cong, count-cong}
 use Rattle.rows.specs.Row.{word, row, joined, starred}
 use Rattle.rows.proofs.Bits.{bit-nothing}
-use Rattle.rows.proofs.Rows.{word-small, word-bit, is-word, is-word-in, word-ext, word-and, word-or, word-not, row-ext, row-and, row-or}
-use Rattle.rows.proofs.Joins.{chop-row, star-row}
+use Rattle.rows.proofs.Rows.{word-small, word-bit, is-word, is-word-in, word-ext, word-and, word-or, word-not}
+use Rattle.rows.proofs.Formulas.{point-holds, stretch-holds, whole-holds, unit-holds, chop-holds, conjunction-holds, disjunction-holds, star-holds, slen-holds, scount-holds, sdur-holds, drawn-holds, at-holds, gap-holds}
 use Rattle.stored.specs.declared.Node.{Node}
 use Rattle.stored.specs.Node.{requirementSorts, sortOf, aUse, bUse, qUse}
 use Rattle.stored.specs.Trace.{cycleCount, cycleAt, cyclesOf}
@@ -39,18 +37,6 @@ unfolding signalColumn signalAt
 signal-is trace n k e =
     word-ext n (λ t. bit (cycleAt trace t) k) (λ t. signalAt (cyclesOf trace) k t)
     (λ t l. ap (λ (z : ℕ). bit z k) (sym (cycles-at trace t (omega arith))))
-
-drawn-cong : (s : Symbol) (p q : ℕ → Bool) (b e : ℕ) → b ≤ e → ((t : ℕ) → b ≤ t → t ≤ e → p t ≡ q t) → drawnOn s p b e ≡ drawnOn s q b e
-unfolding drawnOn
-drawn-cong low p q b e l f = ap (λ (r : Bool). eqb e (b + 1) && not r) (f b (omega arith) l)
-drawn-cong high p q b e l f = ap (λ (r : Bool). eqb e (b + 1) && r) (f b (omega arith) l)
-drawn-cong either p q b e l f = refl
-drawn-cong lowStretch p q b e l f = every-cong b e (λ t. not (p t)) (λ t. not (q t)) (λ t m h. ap not (f t m (omega arith)))
-drawn-cong highStretch p q b e l f = every-cong b e p q (λ t m h. f t m (omega arith))
-drawn-cong eitherStretch p q b e l f = refl
-drawn-cong steady p q b e l f =
-    ap₂ _||_ (every-cong b e (λ t. not (p t)) (λ t. not (q t)) (λ t m h. ap not (f t m (omega arith))))
-    (every-cong b e p q (λ t m h. f t m (omega arith)))
 
 -- one node, over its operands' propositions p and formulas f
 module _ (x : Node) (trace : List ℕ) (n : ℕ) (ν : Placement) (words : List ℕ) (cycles : cycleCount trace ≡ n) (few : n ≤ 64) (p : ℕ → Proposition) where
@@ -99,60 +85,32 @@ module _ (x : Node) (trace : List ℕ) (n : ℕ) (ν : Placement) (words : List 
     held e g t l = column-bit first (λ t. holdsAt (p (x .a)) (cyclesOf trace) (marks ν) t) (e ∙ g) t l
 
     pub lines : (k : ℕ) → Lines k
-    unfolding Lines Column Rows sortOf aUse bUse qUse firstColumn secondColumn rowOf formulaOp formulaOf holds nameColumn
+    unfolding Lines Column Rows sortOf aUse bUse qUse firstColumn secondColumn rowOf formulaOp formulaOf nameColumn
     lines k =
         formula-cases Lines
-        (λ s u v c r₁ r₂ later.
-        row-ext n (λ b e. bit first b) _ b (λ e l m. held u (c refl) b inside))
-        (λ s u v c r₁ r₂ later.
-        row-ext n (λ b e. everyFrom b e (bit first)) _ b
-        (λ e l m. every-cong b e (bit first) (holdsAt (p (x .a)) (cyclesOf trace) (marks ν)) (λ t y z. held u (c refl) t (omega arith))))
-        (λ s u v c r₁ r₂ later.
-        row-ext n (λ b e. everyIn b e (bit first)) _ b
-        (λ e l m. every-cong b (suc e) (bit first) (holdsAt (p (x .a)) (cyclesOf trace) (marks ν)) (λ t y z. held u (c refl) t (omega arith))))
-        (λ s u v c r₁ r₂ later.
-        row-ext n (λ b e. eqb e (b + 1) && bit first b) _ b
-        (λ e l m. ap (λ (d : Bool). eqb e (b + 1) && d) (held u (c refl) b inside)))
+        (λ s u v c r₁ r₂ later. point-holds n few (cyclesOf trace) (marks ν) b inside first (p (x .a)) (held u (c refl)))
+        (λ s u v c r₁ r₂ later. stretch-holds n few (cyclesOf trace) (marks ν) b inside first (p (x .a)) (held u (c refl)))
+        (λ s u v c r₁ r₂ later. whole-holds n few (cyclesOf trace) (marks ν) b inside first (p (x .a)) (held u (c refl)))
+        (λ s u v c r₁ r₂ later. unit-holds n few (cyclesOf trace) (marks ν) b inside first (p (x .a)) (held u (c refl)))
         (λ s u v c r₁ r₂ later.
         ap (λ (z : ℕ). joined z (rowAt words (x .b))) (r₁ refl b (omega arith))
-        ∙ chop-row n (holds (f (x .a)) (cyclesOf trace) (marks ν)) (holds (f (x .b)) (cyclesOf trace) (marks ν)) (rowAt words (x .b)) b few
-        (λ i m. r₂ refl i (omega arith)))
+        ∙ chop-holds n few (cyclesOf trace) (marks ν) b inside (f (x .a)) (f (x .b)) (rowAt words (x .b)) (λ i m. r₂ refl i (omega arith)))
         (λ s u v c r₁ r₂ later.
-        ap₂ bitAnd (r₁ refl b (omega arith)) (r₂ refl b (omega arith))
-        ∙ row-and n (holds (f (x .a)) (cyclesOf trace) (marks ν)) (holds (f (x .b)) (cyclesOf trace) (marks ν)) b)
+        ap₂ bitAnd (r₁ refl b (omega arith)) (r₂ refl b (omega arith)) ∙ conjunction-holds n few (cyclesOf trace) (marks ν) b inside (f (x .a)) (f (x .b)))
         (λ s u v c r₁ r₂ later.
-        ap₂ bitOr (r₁ refl b (omega arith)) (r₂ refl b (omega arith))
-        ∙ row-or n (holds (f (x .a)) (cyclesOf trace) (marks ν)) (holds (f (x .b)) (cyclesOf trace) (marks ν)) b)
+        ap₂ bitOr (r₁ refl b (omega arith)) (r₂ refl b (omega arith)) ∙ disjunction-holds n few (cyclesOf trace) (marks ν) b inside (f (x .a)) (f (x .b)))
         (λ s u v c r₁ r₂ later.
-        ap (λ (z : ℕ). starred z (rowAt words own) b) (r₁ refl b (omega arith))
-        ∙ star-row n (holds (f (x .a)) (cyclesOf trace) (marks ν)) (rowAt words own) b few inside later)
-        (λ s u v c r₁ r₂ later. refl)
+        ap (λ (z : ℕ). starred z (rowAt words own) b) (r₁ refl b (omega arith)) ∙ star-holds n few (cyclesOf trace) (marks ν) b inside (f (x .a)) (rowAt words own) later)
+        (λ s u v c r₁ r₂ later. slen-holds n few (cyclesOf trace) (marks ν) b inside (comparisonOf (x .q)) (x .b))
+        (λ s u v c r₁ r₂ later. scount-holds n few (cyclesOf trace) (marks ν) b inside (comparisonOf (x .q)) (x .b) first (p (x .a)) (held u (c refl)))
+        (λ s u v c r₁ r₂ later. sdur-holds n few (cyclesOf trace) (marks ν) b inside (comparisonOf (x .q)) (x .b) first (p (x .a)) (held u (c refl)))
         (λ s u v c r₁ r₂ later.
-        row-ext n (λ b e. compared (comparisonOf (x .q)) (countIn b e (bit first)) (x .b)) _ b
-        (λ e l m. ap (λ (z : ℕ). compared (comparisonOf (x .q)) z (x .b))
-        (count-cong b (suc e) (bit first) (holdsAt (p (x .a)) (cyclesOf trace) (marks ν)) (λ t y z. held u (c refl) t (omega arith)))))
+        drawn-holds n few (cyclesOf trace) (marks ν) b inside (symbolOf (x .q)) (x .a) first
+        (column-bit first (λ t. signalAt (cyclesOf trace) (x .a) t) (u ∙ signal-is trace n (x .a) cycles)))
+        (λ s u v c r₁ r₂ later. at-holds n few (cyclesOf trace) (marks ν) b inside (x .a) first (column-bit first (λ t. marks ν (x .a) t) u))
         (λ s u v c r₁ r₂ later.
-        row-ext n (λ b e. compared (comparisonOf (x .q)) (countFrom b e (bit first)) (x .b)) _ b
-        (λ e l m. ap (λ (z : ℕ). compared (comparisonOf (x .q)) z (x .b))
-        (count-cong b e (bit first) (holdsAt (p (x .a)) (cyclesOf trace) (marks ν)) (λ t y z. held u (c refl) t (omega arith)))))
-        (λ s u v c r₁ r₂ later.
-        row-ext n (λ b e. drawnOn (symbolOf (x .q)) (bit first) b e) _ b
-        (λ e l m. drawn-cong (symbolOf (x .q)) (bit first) (signalAt (cyclesOf trace) (x .a)) b e l
-        (λ t y z. column-bit first (λ t. signalAt (cyclesOf trace) (x .a) t) (u ∙ signal-is trace n (x .a) cycles) t (omega arith))))
-        (λ s u v c r₁ r₂ later.
-        row-ext n (λ b e. eqb b e && bit first b) _ b
-        (λ e l m. ap (λ (d : Bool). eqb b e && d) (column-bit first (λ t. marks ν (x .a) t) u b inside)))
-        (λ s u v c r₁ r₂ later.
-        row-ext n
-        (λ b e. someIn b e (λ t. bit first t && someIn t e (λ y. bit second y && (leb (x .a) (y - t) && leb (y - t) (x .b))))) _ b
-        (λ e l m. some-cong b (suc e)
-        (λ t. bit first t && someIn t e (λ y. bit second y && (leb (x .a) (y - t) && leb (y - t) (x .b))))
-        (λ t. marks ν (x .q / 16) t && someIn t e (λ y. marks ν (x .q % 16) y && (leb (x .a) (y - t) && leb (y - t) (x .b))))
-        (λ t y z. ap₂ _&&_ (column-bit first (λ t. marks ν (x .q / 16) t) u t (omega arith))
-        (some-cong t (suc e)
-        (λ y. bit second y && (leb (x .a) (y - t) && leb (y - t) (x .b)))
-        (λ y. marks ν (x .q % 16) y && (leb (x .a) (y - t) && leb (y - t) (x .b)))
-        (λ y i j. ap (λ (d : Bool). d && (leb (x .a) (y - t) && leb (y - t) (x .b))) (column-bit second (λ t. marks ν (x .q % 16) t) v y (omega arith)))))))
+        gap-holds n few (cyclesOf trace) (marks ν) b inside (x .q / 16) (x .q % 16) first second (x .a) (x .b)
+        (column-bit first (λ t. marks ν (x .q / 16) t) u) (column-bit second (λ t. marks ν (x .q % 16) t) v))
         (λ s u v c r₁ r₂ later. absurd (omega arith))
         (λ s u v c r₁ r₂ later. absurd (omega arith))
         k

@@ -1,6 +1,6 @@
 -- A node that reaches none of the moved names keeps its table.
 use Prim.Native.Nat.{ℕ, _<_}
-use mathlib.Core.Bool.{Bool, true, false, not, cond, _&&_, _||_}
+use mathlib.Core.Bool.{Bool, true, not, cond, _&&_, _||_}
 use mathlib.Core.List.{List}
 use mathlib.Core.Path.{_≡_, refl, sym, _∙_, ap, subst}
 use native.Mathlib.Omega.{arith}
@@ -12,7 +12,6 @@ use Rattle.semantics.specs.Proposition.{Trace, bit}
 use Rattle.semantics.specs.Formula.{holds}
 use Rattle.semantics.specs.Placement.{Names, Placement, marks}
 use Rattle.semantics.proofs.Locality.{Alike, local, at-local}
-use Rattle.semantics.proofs.Tests.{and-left, and-right}
 use Rattle.rows.proofs.Rows.{row-ext, word-ext}
 use Rattle.stored.specs.declared.Node.{Node}
 use Rattle.stored.specs.Bytes.{everyBelow}
@@ -20,7 +19,7 @@ use Rattle.stored.specs.Node.{nodeAt}
 use Rattle.stored.specs.Reach.{joint, reachAt, covers, entryOf}
 use Rattle.stored.specs.Trace.{cyclesOf}
 use Rattle.stored.specs.Tree.{propositionAt, formulaAt}
-use Rattle.stored.proofs.Reach.{NodesKept, reach-law, reach-small, table-at}
+use Rattle.stored.proofs.Reach.{NodesKept, reach-law, reach-small, table-at, eachBool, each-at}
 use Rattle.stored.proofs.Rules.{asked, every-at}
 use Rattle.tables.specs.Table.{standing, Table, Tables}
 use Rattle.tables.specs.Ready.{Ready, Kept, apart, changed, movedNames}
@@ -57,14 +56,6 @@ table-moved s m count x σ ν ν′ words i kept h c t =
     }
 
 -- over masks below 8 and three tests: a mask apart from the changed names is covered by the others
-eachBool : (Bool → Bool) → Bool
-eachBool p = p true && p false
-
-each-at : (p : Bool → Bool) → eachBool p ≡ true → (b : Bool) → p b ≡ true
-unfolding eachBool
-each-at p h true = and-left (p true) (p false) h
-each-at p h false = and-right (p true) (p false) h
-
 movedBy : Bool → Bool → Bool → ℕ
 movedBy a b c = joint (cond a 0 1) (joint (cond b 0 2) (cond c 0 4))
 
