@@ -91,7 +91,7 @@ module _ (σ : Trace) (short : length σ ≤ 64) where
       excusedOr-small 0 cs (brokenOr 0 cs σ semantics.Holds) (omega arith) (brokenOr-small 0 cs (omega arith))
 
 -- ---- an answer's
-or-zero : (a b : ℕ) → orElse a b ≡ 0 → (a ≡ 0) × (b ≡ 0)
+pub or-zero : (a b : ℕ) → orElse a b ≡ 0 → (a ≡ 0) × (b ≡ 0)
 unfolding orElse
 or-zero a b e = go (eqb a 0) refl e
   where

@@ -26,6 +26,15 @@ packed (Excused clause) = 1 + clause * 256
 packed (Broken p) = 2 + packedPlace p * 256
 packed Holds = 3
 
+-- and back: what a caller reads in the number
+unfoldable pub unpackedPlace : ℕ → Place
+unpackedPlace v = record { clause = v / 262144; i = v / 4096 % 64; j = v / 64 % 64; k = v % 64 }
+
+unfoldable pub unpacked : ℕ → Answer
+unpacked r =
+    pick (eqb (r % 256) 0) (Refused (r / 256))
+    (pick (eqb (r % 256) 1) (Excused (r / 256)) (pick (eqb (r % 256) 2) (Broken (unpackedPlace (r / 256))) Holds))
+
 -- the translator's answer: tag 0 and the refusal's number, 4 and the length of the sheet written
 unfoldable pub packedFormula : TranslateAnswer → ℕ
 packedFormula (formula.Written size) = 4 + size * 256

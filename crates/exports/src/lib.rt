@@ -16,7 +16,7 @@ ghost use Rattle.checker.specs.Check.{checkAnswer, checkRefusal};
 ghost use Rattle.checker.specs.Table.{orElse, wordsAfter};
 ghost use Rattle.translator.specs.Translated.{Translated};
 ghost use Rattle.checker.specs.Small.{Small, SmallPlace};
-ghost use Rattle.exports.specs.Packed.{packedPlace, packed, packedFormula, unpackedFormula, SmallFormula, packedTable, rowsRefusal, rowsOf, rowsAfter};
+ghost use Rattle.exports.specs.Packed.{packedPlace, packed, unpacked, packedFormula, unpackedFormula, SmallFormula, packedTable, rowsRefusal, rowsOf, rowsAfter};
 
 fn packed_place(place: Place) -> u64
     requires { ⌜ SmallPlace place ⌝ }
@@ -47,6 +47,7 @@ fn packed_answer(answer: Answer) -> u64
 #[no_mangle]
 pub extern "C" fn fasunqir_check(sheet: &[u8], trace: &[u8], words: &mut [u64]) -> u64
     ensures { λ r. ⌜ r ≡ packed (checkAnswer (now (sheet .entry)) (now (trace .entry)) (now (words .entry))) ⌝ }
+    ensures { λ r. ⌜ unpacked r ≡ checkAnswer (now (sheet .entry)) (now (trace .entry)) (now (words .entry)) ⌝ }
     ensures { λ r. ⌜ now (words .exit) ≡ wordsAfter (checkRefusal (now (sheet .entry)) (now (trace .entry)) (now (words .entry))) (now (words .entry)) ⌝ }
 {
     let answer = check(sheet, trace, words);

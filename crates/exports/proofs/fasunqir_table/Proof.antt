@@ -5,11 +5,9 @@ use Rattle.exports.proofs.Tabled.{answer-fits, short-law, long-law}
 use Rattle.exports.proofs.fasunqir_table.Statement.{statement}
 use Rattle.exports.proofs.fasunqir_table.Tie as tie
 
--- src/lib.rt:132:9
 refused-short-requires : tie.Need-refused-short-requires
 refused-short-requires c κs = search needs
 
--- src/lib.rt:132:9
 returns : tie.Need-returns
 returns c =
     let args = c .before .before .before .before .before .before .args in
@@ -26,25 +24,20 @@ returns c =
     (omega arith)
     (c .refused-short .ensures)
 
--- src/lib.rt:134:9
 table-requires : tie.Need-table-requires
 table-requires c κs = search needs
 
--- src/lib.rt:135:5
 put-answer-requires : tie.Need-put-answer-requires
 put-answer-requires c κs =
     let fits = answer-fits _ _ _ _ _ _ _ (c .before .before .before .table .result) (c .before .before .before .table .ensures .0) in
     (fits .0, fits .1, omega arith)
 
--- src/lib.rt:116:1
 same-length : tie.Need-same-length
 same-length c = search needs
 
--- src/lib.rt:116:1
 same-length-2 : tie.Need-same-length-2
 same-length-2 c = search needs
 
--- src/lib.rt:116:1
 returns-2 : tie.Need-returns-2
 returns-2 c =
     let args = c .before .before .before .before .before .before .before .before .before .before .before .before .before .args in

@@ -4,19 +4,15 @@ use Rattle.exports.proofs.Packing.{formula-small, formula-packed}
 use Rattle.exports.proofs.fasunqir_translate.Statement.{statement}
 use Rattle.exports.proofs.fasunqir_translate.Tie as tie
 
--- src/lib.rt:73:9
 translate-requires : tie.Need-translate-requires
 translate-requires c κs = search needs
 
--- src/lib.rt:74:5
 packed-formula-requires : tie.Need-packed-formula-requires
 packed-formula-requires c κs = formula-small _ _ _ _ (c .before .before .translate .ensures)
 
--- src/lib.rt:68:1
 same-length : tie.Need-same-length
 same-length c = search needs
 
--- src/lib.rt:68:1
 returns : tie.Need-returns
 returns c = formula-packed _ _ _ (c .before .before .before .translate .result) (c .packed-formula .result) (c .before .before .before .translate .ensures) (c .packed-formula .ensures)
 

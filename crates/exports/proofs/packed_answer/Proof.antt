@@ -9,41 +9,33 @@ use Rattle.exports.proofs.Packing.{place-small}
 use Rattle.exports.proofs.packed_answer.Statement.{statement}
 use Rattle.exports.proofs.packed_answer.Tie as tie
 
--- src/lib.rt:37:25
 enum-known-answer : tie.Need-enum-known-answer
 enum-known-answer c = search needs
 
--- src/lib.rt:37:36
 mul-result : tie.Need-mul-result
 mul-result c =
     let small : c .before .answer .given .0 .0 < 100 = subst (λ (x : Answer). Small x) (c .before .answer .given .1) (c .before .before .before .pre) in
     search needs
 
--- src/lib.rt:38:25
 enum-known-answer-2 : tie.Need-enum-known-answer-2
 enum-known-answer-2 c = search needs
 
--- src/lib.rt:38:40
 mul-result-2 : tie.Need-mul-result-2
 mul-result-2 c =
     let small : c .before .answer2 .given .0 .0 < 100 = subst (λ (x : Answer). Small x) (c .before .answer2 .given .1) (c .before .before .before .pre) in
     search needs
 
--- src/lib.rt:38:36
 add-result : tie.Need-add-result
 add-result c =
     let small : c .before .answer2 .given .0 .0 < 100 = subst (λ (x : Answer). Small x) (c .before .answer2 .given .1) (c .before .before .before .pre) in
     search needs
 
--- src/lib.rt:39:24
 enum-known-answer-3 : tie.Need-enum-known-answer-3
 enum-known-answer-3 c = search needs
 
--- src/lib.rt:39:38
 packed-place-requires : tie.Need-packed-place-requires
 packed-place-requires c κs = subst (λ (x : Answer). Small x) (c .before .answer3 .given .1) (c .before .before .before .pre)
 
--- src/lib.rt:39:38
 mul-result-3 : tie.Need-mul-result-3
 mul-result-3 c =
     let small : SmallPlace (c .before .before .answer3 .given .0 .0) = subst (λ (x : Answer). Small x) (c .before .before .answer3 .given .1) (c .before .before .before .before .pre) in
@@ -51,7 +43,6 @@ mul-result-3 c =
     let is = c .packed-place .ensures in
     search needs
 
--- src/lib.rt:39:34
 add-result-2 : tie.Need-add-result-2
 add-result-2 c =
     let small : SmallPlace (c .before .before .answer3 .given .0 .0) = subst (λ (x : Answer). Small x) (c .before .before .answer3 .given .1) (c .before .before .before .before .pre) in
@@ -59,27 +50,22 @@ add-result-2 c =
     let is = c .packed-place .ensures in
     search needs
 
--- src/lib.rt:40:26
 enum-told : tie.Need-enum-told
 enum-told c = search needs
 
--- src/lib.rt:32:1
 returns : tie.Need-returns
 unfolding packed
 returns c = sym (ap packed (c .before .answer .given .1))
 
--- src/lib.rt:32:1
 returns-2 : tie.Need-returns-2
 unfolding packed
 returns-2 c = sym (ap packed (c .before .answer2 .given .1))
 
--- src/lib.rt:32:1
 returns-3 : tie.Need-returns-3
 unfolding packed
 returns-3 c =
     ap (λ (n : ℕ). 2 + n * 256) (c .packed-place .ensures) ∙ sym (ap packed (c .before .before .answer3 .given .1))
 
--- src/lib.rt:32:1
 returns-4 : tie.Need-returns-4
 unfolding packed
 returns-4 c = sym (ap packed (c .enum-told .given .1))

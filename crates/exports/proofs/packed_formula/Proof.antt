@@ -7,38 +7,31 @@ use Rattle.exports.specs.Packed.{packedFormula, SmallFormula}
 use Rattle.exports.proofs.packed_formula.Statement.{statement}
 use Rattle.exports.proofs.packed_formula.Tie as tie
 
--- src/lib.rt:62:34
 enum-known-answer : tie.Need-enum-known-answer
 enum-known-answer c = search needs
 
--- src/lib.rt:62:47
 mul-result : tie.Need-mul-result
 mul-result c =
     let small : c .before .answer .given .0 .0 ≤ 8192 = subst (λ (x : TranslateAnswer). SmallFormula x) (c .before .answer .given .1) (c .before .before .before .pre) in
     search needs
 
--- src/lib.rt:62:43
 add-result : tie.Need-add-result
 add-result c =
     let small : c .before .answer .given .0 .0 ≤ 8192 = subst (λ (x : TranslateAnswer). SmallFormula x) (c .before .answer .given .1) (c .before .before .before .pre) in
     search needs
 
--- src/lib.rt:63:34
 enum-known-answer-2 : tie.Need-enum-known-answer-2
 enum-known-answer-2 c = search needs
 
--- src/lib.rt:63:45
 mul-result-2 : tie.Need-mul-result-2
 mul-result-2 c =
     let small : c .before .answer2 .given .0 .0 ≤ 8192 = subst (λ (x : TranslateAnswer). SmallFormula x) (c .before .answer2 .given .1) (c .before .before .before .pre) in
     search needs
 
--- src/lib.rt:57:1
 returns : tie.Need-returns
 unfolding packedFormula
 returns c = sym (ap packedFormula (c .before .answer .given .1))
 
--- src/lib.rt:57:1
 returns-2 : tie.Need-returns-2
 unfolding packedFormula
 returns-2 c = sym (ap packedFormula (c .before .answer2 .given .1))

@@ -5,31 +5,24 @@ use Rattle.exports.specs.Packed.{packedPlace}
 use Rattle.exports.proofs.packed_place.Statement.{statement}
 use Rattle.exports.proofs.packed_place.Tie as tie
 
--- src/lib.rt:25:5
 mul-result : tie.Need-mul-result
 mul-result c = search needs
 
--- src/lib.rt:26:11
 mul-result-2 : tie.Need-mul-result-2
 mul-result-2 c = search needs
 
--- src/lib.rt:25:5
 add-result : tie.Need-add-result
 add-result c = search needs
 
--- src/lib.rt:27:11
 mul-result-3 : tie.Need-mul-result-3
 mul-result-3 c = search needs
 
--- src/lib.rt:25:5
 add-result-2 : tie.Need-add-result-2
 add-result-2 c = search needs
 
--- src/lib.rt:25:5
 add-result-3 : tie.Need-add-result-3
 add-result-3 c = search needs
 
--- src/lib.rt:21:1
 returns : tie.Need-returns
 unfolding packedPlace
 returns c = refl

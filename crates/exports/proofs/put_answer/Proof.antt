@@ -5,29 +5,23 @@ use Rattle.exports.proofs.Tabled.{put-none, put-some}
 use Rattle.exports.proofs.put_answer.Statement.{statement}
 use Rattle.exports.proofs.put_answer.Tie as tie
 
--- src/lib.rt:96:16
 mul-result : tie.Need-mul-result
 mul-result c = search needs
 
--- src/lib.rt:96:9
 returns : tie.Need-returns
 returns c =
     let answer = c .before .before .before .args .answer in
     put-none (answer .refused) (answer .rows) _ (c .if1 .taken)
 
--- src/lib.rt:99:14
 slice-aggregate-put-rows : tie.Need-slice-aggregate-put-rows
 slice-aggregate-put-rows c = search needs
 
--- src/lib.rt:99:5
 put-rows-requires : tie.Need-put-rows-requires
 put-rows-requires c κs = search needs
 
--- src/lib.rt:90:1
 same-length : tie.Need-same-length
 same-length c = search needs
 
--- src/lib.rt:90:1
 returns-2 : tie.Need-returns-2
 returns-2 c =
     let start = c .before .before .before .before .before .before .before .before .before in

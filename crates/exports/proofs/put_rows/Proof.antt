@@ -15,35 +15,27 @@ Inv-loop from rows₀ b₀ rows b = (b ≤ 64) × (rows ≡ take b from ++ drop 
 abbrev μ-loop : tie.MeasureT-loop
 μ-loop from rows₀ b₀ rows b = 64 - b
 
--- src/lib.rt:83:5
 loop-holds : tie.Need-loop-holds Inv-loop μ-loop
 loop-holds c = (omega arith, refl, refl)
 
--- src/lib.rt:84:19
 mul-rows : tie.Need-mul-rows Inv-loop μ-loop
 mul-rows c = search needs
 
--- src/lib.rt:84:19
 shared-slice-read-rows : tie.Need-shared-slice-read-rows Inv-loop μ-loop
 shared-slice-read-rows c = search needs
 
--- src/lib.rt:84:9
 mul-rows-2 : tie.Need-mul-rows-2 Inv-loop μ-loop
 mul-rows-2 c = search needs
 
--- src/lib.rt:84:9
 slice-write-rows : tie.Need-slice-write-rows Inv-loop μ-loop
 slice-write-rows c = search needs
 
--- src/lib.rt:85:9
 add-b : tie.Need-add-b Inv-loop μ-loop
 add-b c = search needs
 
--- src/lib.rt:83:5
 loop-less : tie.Need-loop-less Inv-loop μ-loop
 loop-less c = search needs
 
--- src/lib.rt:83:5
 loop-again : tie.Need-loop-again Inv-loop μ-loop
 loop-again c =
     let at = c .before .before .loop in
@@ -56,11 +48,9 @@ loop-again c =
       length-set (at .rows) (at .b) _ ∙ at .inv .2,
     )
 
--- src/lib.rt:78:1
 same-length : tie.Need-same-length Inv-loop μ-loop
 same-length c = c .before .loop .inv .2
 
--- src/lib.rt:78:1
 returns : tie.Need-returns Inv-loop μ-loop
 returns c =
     let at = c .before .loop in

@@ -7,22 +7,18 @@ use Rattle.exports.proofs.Tabled.{answer-fits, one-word}
 use Rattle.exports.proofs.refused_short.Statement.{statement}
 use Rattle.exports.proofs.refused_short.Tie as tie
 
--- src/lib.rt:108:50
 slice-aggregate-table : tie.Need-slice-aggregate-table
 slice-aggregate-table c = search needs
 
--- src/lib.rt:108:9
 table-requires : tie.Need-table-requires
 table-requires c κs = search needs
 
--- src/lib.rt:109:5
 mul-result : tie.Need-mul-result
 mul-result c =
     let fits = answer-fits _ _ 0 0 0 0 _ (c .before .table .result) (c .before .table .ensures .0) in
     let small = fits .0 in
     search needs
 
--- src/lib.rt:104:1
 returns : tie.Need-returns
 returns c =
     ap (λ (x : TableAnswer). x .refused * 256) (c .before .table .ensures .0)

@@ -1,3 +1,4 @@
+-- `sheetformula::main` meets its contract.
 use borrow.Author.Needs.{needs}
 use native.Mathlib.Omega.{arith}
 use lib.ListN.{length-take}

@@ -1,29 +1,21 @@
+-- `sheets::translate_and_check` meets its contract.
 use borrow.Author.Needs.{needs}
 use Rattle.sheets.proofs.Demand.{demand}
 use Rattle.sheets.proofs.translate_and_check.Statement.{statement}
 use Rattle.sheets.proofs.translate_and_check.Tie as tie
-use Rattle.sheets.proofs.translate_and_check.Reads as reads
-use Rattle.sheets.proofs.translate_and_check.Lts as lts
-use Rattle.checker.proofs.check.check.Reads as check-reads
-use Rattle.translator.proofs.translate.Reads as translate-reads
 
--- src/lib.rt:26:9
 translate-requires : tie.Need-translate-requires
 translate-requires c κs = search needs
 
--- src/lib.rt:27:9
 check-requires : tie.Need-check-requires
 check-requires c κs = search needs
 
--- src/lib.rt:20:1
 same-length : tie.Need-same-length
 same-length c = search needs
 
--- src/lib.rt:20:1
 same-length-2 : tie.Need-same-length-2
 same-length-2 c = search needs
 
--- src/lib.rt:20:1
 returns : tie.Need-returns
 returns c =
     let translated = c .before .before .before .before .before .before .translate .ensures in

@@ -1,3 +1,4 @@
+-- `translator::translate` meets its contract.
 use Rattle.emission.proofs.Steps.{steps}
 use mathlib.Core.Path.{_≡_, sym, _∙_, subst}
 use denote.Ref.{now}

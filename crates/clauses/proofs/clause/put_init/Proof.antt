@@ -1,3 +1,4 @@
+-- `clauses::clause::put_init` meets its contract.
 use Rattle.clauses.proofs.Names.{small-mask}
 use Rattle.clauses.specs.Clauses.{clauseCost}
 use Rattle.semantics.specs.Placement.{noNames}

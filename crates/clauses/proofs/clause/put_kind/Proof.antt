@@ -1,3 +1,4 @@
+-- `clauses::clause::put_kind` meets its contract.
 use Rattle.stored.specs.Clause.{kindOf, partsUsed}
 use Rattle.semantics.specs.Translation.{brokenOf}
 use mathlib.Core.Path.{_≡_}

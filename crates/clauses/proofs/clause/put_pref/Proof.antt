@@ -1,3 +1,4 @@
+-- `clauses::clause::put_pref` meets its contract.
 use Rattle.clauses.specs.Clauses.{clauseCost}
 use Rattle.semantics.specs.Placement.{noNames}
 use Rattle.semantics.specs.Translation.{placed, brokenOf}

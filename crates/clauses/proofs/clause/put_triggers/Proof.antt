@@ -1,3 +1,4 @@
+-- `clauses::clause::put_triggers` meets its contract.
 use Rattle.clauses.proofs.Names.{named-as, joined-below, joined-union}
 use Rattle.clauses.specs.Clauses.{clauseCost}
 use Rattle.semantics.specs.Placement.{noNames}

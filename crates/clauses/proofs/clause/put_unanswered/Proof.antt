@@ -1,3 +1,4 @@
+-- `clauses::clause::put_unanswered` meets its contract.
 use Rattle.clauses.proofs.Names.{small-mask, before-as, joined-below, joined-union}
 use Rattle.semantics.specs.Translation.{placed, once, shortestOf, unansweredOf}
 use Rattle.semantics.specs.Formula.{chop, conjunction, negation}

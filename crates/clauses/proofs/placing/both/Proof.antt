@@ -1,3 +1,4 @@
+-- `clauses::placing::both` meets its contract.
 use mathlib.Core.Path.{refl}
 use Rattle.clauses.proofs.placing.both.Statement.{statement}
 use Rattle.clauses.proofs.placing.both.Tie as tie

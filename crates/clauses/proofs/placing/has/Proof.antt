@@ -1,3 +1,4 @@
+-- `clauses::placing::has` meets its contract.
 use native.Mathlib.Omega.{arith}
 use mathlib.Core.Path.{refl}
 use Rattle.clauses.proofs.placing.has.Statement.{statement}

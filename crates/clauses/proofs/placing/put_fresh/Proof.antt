@@ -1,3 +1,4 @@
+-- `clauses::placing::put_fresh` meets its contract.
 use Rattle.clauses.proofs.Names.{placed-cheap, bit-none, before-as}
 use Rattle.emission.proofs.Steps.{within-cost}
 use borrow.Author.Needs.{needs}

@@ -1,3 +1,4 @@
+-- `clauses::placing::put_name` meets its contract.
 use Rattle.semantics.specs.Formula.{conjunction, forSome}
 use mathlib.Core.Path.{sym, _∙_}
 use borrow.Author.Tests.{not-true, not-false}

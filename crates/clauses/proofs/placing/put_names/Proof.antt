@@ -1,3 +1,4 @@
+-- `clauses::placing::put_names` meets its contract.
 use Rattle.clauses.specs.Clauses.{placedCosts}
 use Prim.Native.Nat.{ℕ, _<_}
 use mathlib.Core.Path.{sym, subst}

@@ -1,3 +1,4 @@
+-- `clauses::placing::put_once` meets its contract.
 use Rattle.clauses.proofs.Names.{once-cheap, placed-every}
 use Rattle.emission.proofs.Steps.{within-cost, emits-as}
 use borrow.Author.Needs.{needs}

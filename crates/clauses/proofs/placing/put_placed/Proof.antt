@@ -1,3 +1,4 @@
+-- `clauses::placing::put_placed` meets its contract.
 use Rattle.clauses.proofs.Names.{placed-cheap}
 use Rattle.emission.proofs.Steps.{within-cost}
 use borrow.Author.Needs.{needs}

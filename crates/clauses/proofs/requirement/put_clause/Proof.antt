@@ -1,3 +1,4 @@
+-- `clauses::requirement::put_clause` meets its contract.
 use Rattle.clauses.specs.Clauses.{brokenIn}
 use native.Mathlib.Omega.{arith}
 use Rattle.clauses.proofs.requirement.put_clause.Statement.{statement}

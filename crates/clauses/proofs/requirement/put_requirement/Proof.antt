@@ -1,3 +1,4 @@
+-- `clauses::requirement::put_requirement` meets its contract.
 use Rattle.clauses.proofs.Joining.{Joins, joins-start, joins-kept, joins-next, joins-done, clause-in, clause-now, broken-has, clause-role, clauses-length, clauses-at, joined-cost, joined-most}
 use Rattle.emission.proofs.Copied.{mapped-kept, costs-most}
 use Rattle.emission.proofs.Nodes.{may-or}

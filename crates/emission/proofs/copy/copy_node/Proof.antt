@@ -1,3 +1,4 @@
+-- `emission::copy::copy_node` meets its contract.
 use Rattle.emission.specs.Bound.{isDrawing}
 use Rattle.emission.proofs.Copied.{node-fits, may-copied, copied-drawing, copied-plain}
 use native.Mathlib.Omega.{arith}

@@ -1,3 +1,4 @@
+-- `emission::copy::copy_nodes` meets its contract.
 use Rattle.emission.proofs.Copied.{mapped-kept, mapped-next, cost-next, costs-most}
 use Rattle.emission.proofs.Steps.{stay, steps, wider, ready-kept}
 use mathlib.Core.Path.{_≡_, refl, ap}

@@ -1,3 +1,4 @@
+-- `emission::copy::mapped` meets its contract.
 use Rattle.emission.specs.Copying.{mappedTo}
 use native.Mathlib.Omega.{arith}
 use Rattle.emission.proofs.copy.mapped.Statement.{statement}

@@ -1,3 +1,4 @@
+-- `emission::copy::put_copy` meets its contract.
 use Rattle.emission.specs.Copying.{copiedNode}
 use native.Mathlib.Omega.{arith}
 use Rattle.emission.proofs.copy.put_copy.Statement.{statement}

@@ -1,3 +1,4 @@
+-- `emission::copy::put_drawing` meets its contract.
 use Rattle.semantics.specs.Translation.{undrawn}
 use Rattle.stored.specs.Tree.{formulaOf, formulaOp}
 use Rattle.emission.proofs.Copied.{symbol-right, mark-right, gap-right, gap-is}

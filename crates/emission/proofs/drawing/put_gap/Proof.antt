@@ -1,3 +1,4 @@
+-- `emission::drawing::put_gap` meets its contract.
 use Rattle.stored.specs.Tree.{comparisonOf}
 use Rattle.semantics.specs.Translation.{undrawnGap}
 use Rattle.semantics.specs.Formula.{chop, conjunction, point}

@@ -1,3 +1,4 @@
+-- `emission::drawing::put_mark` meets its contract.
 use Rattle.stored.specs.Tree.{comparisonOf}
 use Rattle.semantics.specs.Translation.{undrawnMark}
 use Rattle.semantics.specs.Formula.{conjunction, point}

@@ -1,3 +1,4 @@
+-- `emission::drawing::put_symbol` meets its contract.
 use mathlib.Core.Path.{_≡_}
 use Rattle.stored.specs.Tree.{symbolOf, comparisonOf}
 use Rattle.semantics.specs.Translation.{undrawnSymbol}

@@ -1,3 +1,4 @@
+-- `emission::node::emit` meets its contract.
 use Rattle.stored.specs.Sheet.{headerOf}
 use Rattle.emission.proofs.Steps.{emitted}
 use borrow.Author.Needs.{needs}

@@ -1,3 +1,4 @@
+-- `emission::node::put_and` meets its contract.
 use Rattle.emission.proofs.Nodes.{may-and, and-made}
 use borrow.Author.Needs.{needs}
 use Rattle.emission.proofs.node.put_and.Statement.{statement}

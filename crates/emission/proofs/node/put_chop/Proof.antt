@@ -1,3 +1,4 @@
+-- `emission::node::put_chop` meets its contract.
 use Rattle.emission.proofs.Nodes.{may-chop, chop-made}
 use borrow.Author.Needs.{needs}
 use Rattle.emission.proofs.node.put_chop.Statement.{statement}

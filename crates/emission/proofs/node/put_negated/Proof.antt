@@ -1,3 +1,4 @@
+-- `emission::node::put_negated` meets its contract.
 use Rattle.emission.proofs.Nodes.{may-negated, negated-made}
 use borrow.Author.Needs.{needs}
 use Rattle.emission.proofs.node.put_negated.Statement.{statement}

@@ -1,3 +1,4 @@
+-- `emission::node::put_not` meets its contract.
 use Rattle.emission.proofs.Nodes.{may-not, not-made}
 use borrow.Author.Needs.{needs}
 use Rattle.emission.proofs.node.put_not.Statement.{statement}

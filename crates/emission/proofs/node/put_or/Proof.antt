@@ -1,3 +1,4 @@
+-- `emission::node::put_or` meets its contract.
 use Rattle.emission.proofs.Nodes.{may-or, or-made}
 use borrow.Author.Needs.{needs}
 use Rattle.emission.proofs.node.put_or.Statement.{statement}

@@ -1,3 +1,4 @@
+-- `emission::node::put_point` meets its contract.
 use mathlib.Core.Path.{refl}
 use Rattle.stored.specs.Node.{sortOf, qUse, aUse, bUse, fieldRight, fieldsRight}
 use Rattle.emission.proofs.Nodes.{may-over, point-made}

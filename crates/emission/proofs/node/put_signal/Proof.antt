@@ -1,3 +1,4 @@
+-- `emission::node::put_signal` meets its contract.
 use Rattle.emission.proofs.Nodes.{may-signal, signal-made}
 use borrow.Author.Needs.{needs}
 use Rattle.emission.proofs.node.put_signal.Statement.{statement}

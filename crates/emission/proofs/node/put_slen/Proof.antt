@@ -1,3 +1,4 @@
+-- `emission::node::put_slen` meets its contract.
 use Rattle.emission.proofs.Nodes.{may-slen, slen-made}
 use borrow.Author.Needs.{needs}
 use Rattle.emission.proofs.node.put_slen.Statement.{statement}

@@ -1,3 +1,4 @@
+-- `emission::node::put_some` meets its contract.
 use Rattle.emission.proofs.Nodes.{may-some, some-made}
 use borrow.Author.Needs.{needs}
 use Rattle.emission.proofs.node.put_some.Statement.{statement}

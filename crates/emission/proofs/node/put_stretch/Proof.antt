@@ -1,3 +1,4 @@
+-- `emission::node::put_stretch` meets its contract.
 use mathlib.Core.Path.{refl}
 use Rattle.stored.specs.Node.{sortOf, qUse, aUse, bUse, fieldRight, fieldsRight}
 use Rattle.emission.proofs.Nodes.{may-over, stretch-made}

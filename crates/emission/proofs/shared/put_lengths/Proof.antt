@@ -1,3 +1,4 @@
+-- `emission::shared::put_lengths` meets its contract.
 use Rattle.emission.proofs.SharedNodes.{shared-start}
 use Rattle.emission.proofs.Nodes.{may-slen}
 use Rattle.emission.proofs.Steps.{steps}

@@ -1,3 +1,4 @@
+-- `emission::shared::put_name` meets its contract.
 use Rattle.emission.proofs.SharedNodes.{shared-next}
 use Rattle.emission.proofs.Nodes.{may-name, may-once, name-made}
 use Rattle.emission.proofs.Steps.{steps}

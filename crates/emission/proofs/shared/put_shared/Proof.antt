@@ -1,3 +1,4 @@
+-- `emission::shared::put_shared` meets its contract.
 use Rattle.emission.specs.Emission.{count, Step, Shared}
 use mathlib.Core.Path.{_≡_, subst}
 use Prim.Native.Nat.{_+_, _-_, _*_, _≤_}

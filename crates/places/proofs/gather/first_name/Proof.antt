@@ -1,3 +1,4 @@
+-- `places::gather::first_name` meets its contract.
 use Prim.Native.Nat.{ℕ, min}
 use native.Mathlib.Omega.{arith}
 use mathlib.Core.Bool.{Bool, cond}
@@ -8,49 +9,34 @@ use Rattle.places.proofs.Gathered.{first-most}
 use borrow.Author.Needs.{needs}
 use Rattle.places.proofs.gather.first_name.Statement.{statement}
 use Rattle.places.proofs.gather.first_name.Tie as tie
-use Rattle.places.proofs.gather.first_name.Reads as reads
-use Rattle.places.proofs.gather.first_name.Lts as lts
-use Rattle.places.proofs.gather.has_name.Reads as has-name-reads
-use Rattle.places.proofs.gather.lesser.Reads as lesser-reads
-use Rattle.places.proofs.task.choose.Reads as choose-reads
 
--- src/gather.rt:36:20
 has-name-requires : tie.Need-has-name-requires
 has-name-requires c κs = search needs
 
--- src/gather.rt:36:9
 choose-requires : tie.Need-choose-requires
 choose-requires c κs = search needs
 
--- src/gather.rt:37:20
 has-name-requires-2 : tie.Need-has-name-requires-2
 has-name-requires-2 c κs = search needs
 
--- src/gather.rt:37:9
 choose-requires-2 : tie.Need-choose-requires-2
 choose-requires-2 c κs = search needs
 
--- src/gather.rt:38:20
 has-name-requires-3 : tie.Need-has-name-requires-3
 has-name-requires-3 c κs = search needs
 
--- src/gather.rt:38:9
 choose-requires-3 : tie.Need-choose-requires-3
 choose-requires-3 c κs = search needs
 
--- src/gather.rt:39:12
 lesser-requires : tie.Need-lesser-requires
 lesser-requires c κs = search needs
 
--- src/gather.rt:39:26
 lesser-requires-2 : tie.Need-lesser-requires-2
 lesser-requires-2 c κs = search needs
 
--- src/gather.rt:39:5
 lesser-requires-3 : tie.Need-lesser-requires-3
 lesser-requires-3 c κs = search needs
 
--- src/gather.rt:33:1
 returns : tie.Need-returns
 unfolding firstName
 returns c =

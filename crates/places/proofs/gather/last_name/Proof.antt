@@ -1,3 +1,4 @@
+-- `places::gather::last_name` meets its contract.
 use Prim.Native.Nat.{ℕ, max}
 use mathlib.Core.Bool.{Bool, cond}
 use mathlib.Core.Path.{ap, ap₂, _∙_}
@@ -5,45 +6,31 @@ use Rattle.places.specs.Gather.{lastName}
 use borrow.Author.Needs.{needs}
 use Rattle.places.proofs.gather.last_name.Statement.{statement}
 use Rattle.places.proofs.gather.last_name.Tie as tie
-use Rattle.places.proofs.gather.last_name.Reads as reads
-use Rattle.places.proofs.gather.last_name.Lts as lts
-use Rattle.places.proofs.gather.greater.Reads as greater-reads
-use Rattle.places.proofs.gather.has_name.Reads as has-name-reads
-use Rattle.places.proofs.task.choose.Reads as choose-reads
 
--- src/gather.rt:46:20
 has-name-requires : tie.Need-has-name-requires
 has-name-requires c κs = search needs
 
--- src/gather.rt:46:9
 choose-requires : tie.Need-choose-requires
 choose-requires c κs = search needs
 
--- src/gather.rt:47:20
 has-name-requires-2 : tie.Need-has-name-requires-2
 has-name-requires-2 c κs = search needs
 
--- src/gather.rt:47:9
 choose-requires-2 : tie.Need-choose-requires-2
 choose-requires-2 c κs = search needs
 
--- src/gather.rt:48:20
 has-name-requires-3 : tie.Need-has-name-requires-3
 has-name-requires-3 c κs = search needs
 
--- src/gather.rt:48:9
 choose-requires-3 : tie.Need-choose-requires-3
 choose-requires-3 c κs = search needs
 
--- src/gather.rt:49:13
 greater-requires : tie.Need-greater-requires
 greater-requires c κs = search needs
 
--- src/gather.rt:49:5
 greater-requires-2 : tie.Need-greater-requires-2
 greater-requires-2 c κs = search needs
 
--- src/gather.rt:43:1
 returns : tie.Need-returns
 unfolding lastName
 returns c =

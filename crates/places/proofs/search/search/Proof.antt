@@ -9,8 +9,6 @@ use Rattle.places.proofs.Searching.{RowsPassed, EndsPassed, CyclesPasse
 use borrow.Author.Needs.{needs}
 use Rattle.places.proofs.search.search.Statement.{statement}
 use Rattle.places.proofs.search.search.Tie as tie
-use Rattle.places.proofs.search.search.Reads as reads
-use Rattle.places.proofs.search.search.Lts as lts
 
 abbrev Inv-loop2 : tie.InvT-loop2
 Inv-loop2 kind first third answers n place₀ i from j to k₀ place k = (place ≡ 262144) × CyclesPassed (kindOf kind) first third answers n i j k

@@ -1,3 +1,4 @@
+-- `stored::bytes::byte` meets its contract.
 use Rattle.stored.proofs.bytes.byte.Statement.{statement}
 use Rattle.stored.proofs.bytes.byte.Tie as tie
 use mathlib.Core.Path.{refl}

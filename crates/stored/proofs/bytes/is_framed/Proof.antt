@@ -1,3 +1,4 @@
+-- `stored::bytes::is_framed` meets its contract.
 use native.Mathlib.Omega.{arith}
 use Rattle.stored.proofs.bytes.is_framed.Statement.{statement}
 use Rattle.stored.proofs.bytes.is_framed.Tie as tie

@@ -1,3 +1,4 @@
+-- `stored::bytes::word` meets its contract.
 use Rattle.stored.proofs.bytes.word.Statement.{statement}
 use Rattle.stored.proofs.bytes.word.Tie as tie
 use native.Mathlib.Omega.{arith}

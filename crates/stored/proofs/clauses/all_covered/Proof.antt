@@ -1,3 +1,4 @@
+-- `stored::clauses::all_covered` meets its contract.
 use Rattle.stored.proofs.clauses.all_covered.Statement.{statement}
 use Rattle.stored.proofs.clauses.all_covered.Tie as tie
 use mathlib.Core.Path.{_≡_, refl, _∙_, ap}

@@ -1,3 +1,4 @@
+-- `stored::clauses::clause_covered` meets its contract.
 use native.Mathlib.Omega.{arith}
 use Rattle.stored.proofs.clauses.clause_covered.Statement.{statement}
 use Rattle.stored.proofs.clauses.clause_covered.Tie as tie

@@ -1,3 +1,4 @@
+-- `stored::clauses::clause_ok` meets its contract.
 use native.Mathlib.Omega.{arith}
 use Rattle.stored.proofs.clauses.clause_ok.Statement.{statement}
 use Rattle.stored.proofs.clauses.clause_ok.Tie as tie

@@ -1,3 +1,4 @@
+-- `stored::clauses::clauses_covered` meets its contract.
 use native.Mathlib.Omega.{arith}
 use Rattle.stored.proofs.clauses.clauses_covered.Statement.{statement}
 use Rattle.stored.proofs.clauses.clauses_covered.Tie as tie

@@ -1,3 +1,4 @@
+-- `stored::clauses::clauses_ok` meets its contract.
 use Rattle.stored.proofs.clauses.clauses_ok.Statement.{statement}
 use Rattle.stored.proofs.clauses.clauses_ok.Tie as tie
 use mathlib.Core.Path.{_≡_, refl, _∙_, ap}

@@ -1,3 +1,4 @@
+-- `stored::clauses::part_covered` meets its contract.
 use native.Mathlib.Omega.{arith}
 use Rattle.stored.proofs.clauses.part_covered.Statement.{statement}
 use Rattle.stored.proofs.clauses.part_covered.Tie as tie

@@ -1,3 +1,4 @@
+-- `stored::clauses::part_ok` meets its contract.
 use native.Mathlib.Omega.{arith}
 use Rattle.stored.proofs.clauses.part_ok.Statement.{statement}
 use Rattle.stored.proofs.clauses.part_ok.Tie as tie

@@ -1,3 +1,4 @@
+-- `stored::clauses::parts_used` meets its contract.
 use native.Mathlib.Omega.{arith}
 use Rattle.stored.proofs.clauses.parts_used.Statement.{statement}
 use Rattle.stored.proofs.clauses.parts_used.Tie as tie

@@ -1,3 +1,4 @@
+-- `stored::clauses::stored_at` meets its contract.
 use native.Mathlib.Omega.{arith}
 use Rattle.stored.proofs.clauses.stored_at.Statement.{statement}
 use Rattle.stored.proofs.clauses.stored_at.Tie as tie

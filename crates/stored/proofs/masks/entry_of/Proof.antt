@@ -1,3 +1,4 @@
+-- `stored::masks::entry_of` meets its contract.
 use native.Mathlib.Omega.{arith}
 use Rattle.stored.proofs.masks.entry_of.Statement.{statement}
 use Rattle.stored.proofs.masks.entry_of.Tie as tie

@@ -1,3 +1,4 @@
+-- `stored::masks::field_reach` meets its contract.
 use native.Mathlib.Omega.{arith}
 use Rattle.stored.proofs.masks.field_reach.Statement.{statement}
 use Rattle.stored.proofs.masks.field_reach.Tie as tie

@@ -1,3 +1,4 @@
+-- `stored::masks::name_mask` meets its contract.
 use native.Mathlib.Omega.{arith}
 use Rattle.stored.proofs.masks.name_mask.Statement.{statement}
 use Rattle.stored.proofs.masks.name_mask.Tie as tie

@@ -1,3 +1,4 @@
+-- `stored::masks::node_reach` meets its contract.
 use native.Mathlib.Omega.{arith}
 use Rattle.stored.proofs.masks.node_reach.Statement.{statement}
 use Rattle.stored.proofs.masks.node_reach.Tie as tie

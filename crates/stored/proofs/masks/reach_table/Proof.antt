@@ -1,3 +1,4 @@
+-- `stored::masks::reach_table` meets its contract.
 use Rattle.stored.proofs.masks.reach_table.Statement.{statement}
 use Rattle.stored.proofs.masks.reach_table.Tie as tie
 use mathlib.Core.Path.{_≡_, refl, _∙_, ap}

@@ -1,3 +1,4 @@
+-- `stored::nodes::a_use` meets its contract.
 use native.Mathlib.Omega.{arith}
 use Rattle.stored.proofs.nodes.a_use.Statement.{statement}
 use Rattle.stored.proofs.nodes.a_use.Tie as tie

@@ -1,3 +1,4 @@
+-- `stored::nodes::b_use` meets its contract.
 use native.Mathlib.Omega.{arith}
 use Rattle.stored.proofs.nodes.b_use.Statement.{statement}
 use Rattle.stored.proofs.nodes.b_use.Tie as tie

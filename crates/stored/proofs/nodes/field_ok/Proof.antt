@@ -1,3 +1,4 @@
+-- `stored::nodes::field_ok` meets its contract.
 use Rattle.stored.proofs.nodes.field_ok.Statement.{statement}
 use Rattle.stored.proofs.nodes.field_ok.Tie as tie
 use mathlib.Core.Path.{refl}

@@ -1,3 +1,4 @@
+-- `stored::nodes::fields_ok` meets its contract.
 use native.Mathlib.Omega.{arith}
 use Rattle.stored.proofs.nodes.fields_ok.Statement.{statement}
 use Rattle.stored.proofs.nodes.fields_ok.Tie as tie

@@ -1,3 +1,4 @@
+-- `stored::nodes::is_formula_node` meets its contract.
 use native.Mathlib.Omega.{arith}
 use Rattle.stored.proofs.nodes.is_formula_node.Statement.{statement}
 use Rattle.stored.proofs.nodes.is_formula_node.Tie as tie

@@ -1,3 +1,4 @@
+-- `stored::nodes::node_at` meets its contract.
 use native.Mathlib.Omega.{arith}
 use Rattle.stored.proofs.nodes.node_at.Statement.{statement}
 use Rattle.stored.proofs.nodes.node_at.Tie as tie

@@ -1,3 +1,4 @@
+-- `stored::nodes::nodes_ok` meets its contract.
 use Rattle.stored.proofs.nodes.nodes_ok.Statement.{statement}
 use Rattle.stored.proofs.nodes.nodes_ok.Tie as tie
 use mathlib.Core.Path.{_≡_, refl, _∙_, ap}

@@ -1,3 +1,4 @@
+-- `stored::nodes::operand_ok` meets its contract.
 use native.Mathlib.Omega.{arith}
 use Rattle.stored.proofs.nodes.operand_ok.Statement.{statement}
 use Rattle.stored.proofs.nodes.operand_ok.Tie as tie

@@ -1,3 +1,4 @@
+-- `stored::nodes::operands_ok` meets its contract.
 use Rattle.stored.proofs.nodes.operands_ok.Statement.{statement}
 use Rattle.stored.proofs.nodes.operands_ok.Tie as tie
 use mathlib.Core.Path.{_≡_, refl}

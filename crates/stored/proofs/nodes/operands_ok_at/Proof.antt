@@ -1,3 +1,4 @@
+-- `stored::nodes::operands_ok_at` meets its contract.
 use native.Mathlib.Omega.{arith}
 use Rattle.stored.proofs.nodes.operands_ok_at.Statement.{statement}
 use Rattle.stored.proofs.nodes.operands_ok_at.Tie as tie

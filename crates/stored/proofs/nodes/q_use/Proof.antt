@@ -1,3 +1,4 @@
+-- `stored::nodes::q_use` meets its contract.
 use native.Mathlib.Omega.{arith}
 use Rattle.stored.proofs.nodes.q_use.Statement.{statement}
 use Rattle.stored.proofs.nodes.q_use.Tie as tie

@@ -1,3 +1,4 @@
+-- `stored::nodes::sort_below` meets its contract.
 use native.Mathlib.Omega.{arith}
 use Rattle.stored.proofs.nodes.sort_below.Statement.{statement}
 use Rattle.stored.proofs.nodes.sort_below.Tie as tie

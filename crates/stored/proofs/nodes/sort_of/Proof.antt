@@ -1,3 +1,4 @@
+-- `stored::nodes::sort_of` meets its contract.
 use native.Mathlib.Omega.{arith}
 use Rattle.stored.proofs.nodes.sort_of.Statement.{statement}
 use Rattle.stored.proofs.nodes.sort_of.Tie as tie

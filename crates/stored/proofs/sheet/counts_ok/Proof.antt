@@ -1,3 +1,4 @@
+-- `stored::sheet::counts_ok` meets its contract.
 use Rattle.stored.proofs.sheet.counts_ok.Statement.{statement}
 use Rattle.stored.proofs.sheet.counts_ok.Tie as tie
 use mathlib.Core.Path.{refl}

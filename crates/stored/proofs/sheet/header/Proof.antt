@@ -1,3 +1,4 @@
+-- `stored::sheet::header` meets its contract.
 use native.Mathlib.Omega.{arith}
 use Rattle.stored.proofs.sheet.header.Statement.{statement}
 use Rattle.stored.proofs.sheet.header.Tie as tie

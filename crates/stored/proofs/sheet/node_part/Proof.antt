@@ -1,3 +1,4 @@
+-- `stored::sheet::node_part` meets its contract.
 use borrow.Author.Needs.{needs}
 use Rattle.stored.proofs.sheet.node_part.Statement.{statement}
 use Rattle.stored.proofs.sheet.node_part.Tie as tie

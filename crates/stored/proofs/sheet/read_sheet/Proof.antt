@@ -1,3 +1,4 @@
+-- `stored::sheet::read_sheet` meets its contract.
 use borrow.Author.Needs.{needs}
 use Rattle.stored.proofs.sheet.read_sheet.Statement.{statement}
 use Rattle.stored.proofs.sheet.read_sheet.Tie as tie

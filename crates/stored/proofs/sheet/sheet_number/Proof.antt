@@ -1,3 +1,4 @@
+-- `stored::sheet::sheet_number` meets its contract.
 use native.Mathlib.Omega.{arith}
 use Rattle.stored.proofs.sheet.sheet_number.Statement.{statement}
 use Rattle.stored.proofs.sheet.sheet_number.Tie as tie

@@ -1,3 +1,4 @@
+-- `stored::trace::cycle_at` meets its contract.
 use native.Mathlib.Omega.{arith}
 use Rattle.stored.proofs.trace.cycle_at.Statement.{statement}
 use Rattle.stored.proofs.trace.cycle_at.Tie as tie

@@ -1,3 +1,4 @@
+-- `stored::trace::cycles_ok` meets its contract.
 use Rattle.stored.proofs.trace.cycles_ok.Statement.{statement}
 use Rattle.stored.proofs.trace.cycles_ok.Tie as tie
 use mathlib.Core.Path.{_≡_, refl, _∙_, ap}

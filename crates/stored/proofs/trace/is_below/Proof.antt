@@ -1,3 +1,4 @@
+-- `stored::trace::is_below` meets its contract.
 use Rattle.stored.proofs.trace.is_below.Statement.{statement}
 use Rattle.stored.proofs.trace.is_below.Tie as tie
 use mathlib.Core.Path.{sym}

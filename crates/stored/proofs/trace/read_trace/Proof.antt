@@ -1,3 +1,4 @@
+-- `stored::trace::read_trace` meets its contract.
 use Rattle.stored.proofs.trace.read_trace.Statement.{statement}
 use Rattle.stored.proofs.trace.read_trace.Tie as tie
 use mathlib.Core.Path.{_≡_, sym, _∙_}

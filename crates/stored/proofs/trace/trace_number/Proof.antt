@@ -1,3 +1,4 @@
+-- `stored::trace::trace_number` meets its contract.
 use native.Mathlib.Omega.{arith}
 use Rattle.stored.proofs.trace.trace_number.Statement.{statement}
 use Rattle.stored.proofs.trace.trace_number.Tie as tie

@@ -1,3 +1,4 @@
+-- `stored::writer::count` meets its contract.
 use borrow.Author.Needs.{needs}
 use Rattle.stored.proofs.writer.count.Statement.{statement}
 use Rattle.stored.proofs.writer.count.Tie as tie

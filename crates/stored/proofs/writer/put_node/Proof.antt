@@ -1,3 +1,4 @@
+-- `stored::writer::put_node` meets its contract.
 use borrow.Author.Needs.{needs}
 use native.Mathlib.Omega.{arith}
 use lib.ListN.{length-set}

@@ -1,7 +1,6 @@
 -- `tables::line::comparison` meets its contract.
 use mathlib.Core.Path.{_≡_, sym, ap}
 use native.Mathlib.Omega.{arith}
-use Rattle.rows.specs.Symbols as symbols
 use Rattle.stored.specs.Tree.{comparisonOf}
 use Rattle.tables.proofs.line.comparison.Statement.{statement}
 use Rattle.tables.proofs.line.comparison.Tie as tie

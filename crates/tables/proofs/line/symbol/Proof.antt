@@ -1,7 +1,6 @@
 -- `tables::line::symbol` meets its contract.
 use mathlib.Core.Path.{_≡_, sym, ap}
 use native.Mathlib.Omega.{arith}
-use Rattle.rows.specs.Symbols as symbols
 use Rattle.stored.specs.Tree.{symbolOf}
 use Rattle.tables.proofs.line.symbol.Statement.{statement}
 use Rattle.tables.proofs.line.symbol.Tie as tie

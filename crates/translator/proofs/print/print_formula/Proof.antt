@@ -1,3 +1,4 @@
+-- `translator::print::print_formula` meets its contract.
 use mathlib.Core.Path.{_∙_}
 use Rattle.translator.proofs.Printing.{written-printed, number-small, refusal-printed}
 use borrow.Author.Needs.{needs}

@@ -1,3 +1,4 @@
+-- `translator::print::put_refusal` meets its contract.
 use Rattle.translator.specs.Printed.{refusalLine}
 use mathlib.Core.Path.{refl}
 use lib.ListN.{length-set}
