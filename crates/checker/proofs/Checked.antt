@@ -3,10 +3,11 @@ use Prim.Native.Nat.{ℕ, zero, suc, _*_, _^_, _≤_, _<_}
 use native.Mathlib.Omega.{arith}
 use mathlib.Core.Bool.{true, false}
 use mathlib.Core.List.{List}
-use mathlib.Core.Path.{_≡_, refl, sym, ap, subst, _∙_}
+use mathlib.Core.Path.{_≡_, refl, sym, ap, _∙_}
 use lib.Dec.{eqb}
 use lib.ListN.{length, replicate}
 use borrow.Author.Tests.{le-leb, lt-leb}
+use Rattle.semantics.specs.Proposition.{Trace}
 use Rattle.semantics.specs.Clause.{Clause}
 use Rattle.semantics.specs.Verdict.{verdict}
 use Rattle.semantics.specs.Reach.{clauseFits, allFit}
@@ -18,23 +19,23 @@ use Rattle.stored.specs.declared.SheetAnswer.the-variants.{Accepted}
 use Rattle.stored.specs.declared.TraceAnswer.{TraceAnswer}
 use Rattle.stored.specs.declared.TraceAnswer.the-variants.{Cycles}
 use Rattle.stored.specs.Bytes.{inOrder, lowest}
+use Rattle.stored.specs.Columns.{columnsOf, traceOf}
 use Rattle.stored.specs.Node.{nodeAt, requirementSorts}
 use Rattle.stored.specs.Clause.{storedAt, clauseOf, partsUsed}
 use Rattle.stored.specs.Sheet.{headerOf, nodePart, clausePart, nodesOf, storedOf, clauseIn, clausesOf, sheetRefusal, sheetAnswer, sheetNumber}
-use Rattle.stored.specs.Trace.{cycleCount, cyclesOf, traceRefusal, traceAnswer, traceNumber}
+use Rattle.stored.specs.Trace.{cyclesOf, traceRefusal, traceAnswer, traceNumber}
 use Rattle.stored.specs.Tree.{pick}
 use Rattle.stored.proofs.Tree.{Earlier}
-use Rattle.stored.proofs.Accepted.{Opened, ClauseKept, clauses-kept, accepted-fits, kind-cases, mask-small, open-answer, answer-accepted, trace-opened, cycles-accepted, answer-refused, cycles-refused, length-clauses}
-use Rattle.tables.specs.Ready.{Given}
+use Rattle.stored.proofs.Accepted.{Opened, ClauseKept, clauses-kept, accepted-fits, kind-cases, mask-small, open-answer, answer-accepted, cycles-accepted, answer-refused, cycles-refused, length-clauses}
 use Rattle.checker.specs.declared.check.Answer.{Answer}
 use Rattle.checker.specs.declared.check.Answer.the-variants.{Refused}
 use Rattle.checker.specs.Table.{orElse, wordsRefusal, wordsAfter}
 use Rattle.places.specs.Task.{taskOf}
 use Rattle.places.specs.Laid.{IsFormula, Formulas}
 use Rattle.checker.specs.Check.{told, checkRefusal, checkAnswer}
-use Rattle.checker.specs.Clauses.{Sound}
+use Rattle.checker.specs.Clauses.{Sound, Sounds, clauseAt}
 use Rattle.checker.proofs.Refusals.{sheet-number, trace-number}
-use Rattle.checker.proofs.Opened.{given-opened}
+use Rattle.checker.proofs.Opened.{cycled-as, told-accepted}
 
 -- ---- the lowest number
 module _ (s t words : List ℕ) where
@@ -83,14 +84,8 @@ module _ (s t words : List ℕ) where
         refused-as number (n ∙ sym (at-trace ∙ rw z)) (ap (λ (x : ℕ). eqb x 0) n ∙ z)
 
     module _ (n : ℕ) (cycled : traceAnswer (h .signals) t ≡ Cycles n) where
-      cycled′ : traceAnswer (headerOf s .signals) t ≡ Cycles n
-      cycled′ = ap (λ (g : Header). traceAnswer (g .signals) t) same ∙ cycled
-
       no-trace : traceRefusal (headerOf s .signals) t ≡ 0
-      no-trace = cycles-accepted (headerOf s .signals) t n cycled′ .0
-
-      many : cycleCount t ≡ n
-      many = cycles-accepted (headerOf s .signals) t n cycled′ .1
+      no-trace = cycles-accepted (headerOf s .signals) t n (cycled-as s t h n accepted cycled) .0
 
       at-words : checkRefusal s t words ≡ wordsRefusal words
       unfolding orElse
@@ -100,20 +95,14 @@ module _ (s t words : List ℕ) where
       unfolding wordsRefusal lowest
       check-words l = refused-as 15 (sym (at-words ∙ rw (lt-leb 4096 (length words) l))) refl
 
-      pub check-given : (nodes : List ℕ) → 4096 ≤ length words → nodes ≡ nodePart s → Given nodes (h .nodes) t n 0 0 0 words
-      check-given nodes l e =
-          subst (λ (w : List ℕ). Given w (h .nodes) t n 0 0 0 words) (sym e)
-          (subst (λ (k : ℕ). Given (nodePart s) (h .nodes) t k 0 0 0 words) many
-          (subst (λ (g : Header). Given (nodePart s) (g .nodes) t (cycleCount t) 0 0 0 words) same
-          (given-opened s t words (open-answer s h accepted) (trace-opened (headerOf s .signals) t no-trace) l)))
-
-      pub check-verdict : (nodes clauses after : List ℕ) (v : Answer) → 4096 ≤ length words → nodes ≡ nodePart s → clauses ≡ clausePart s
-          → v ≡ told (verdict (inOrder (h .clauses) (λ k. clauseOf (nodeAt nodes) (storedAt clauses k))) (cyclesOf t)) → after ≡ replicate (length words) 0
+      pub check-verdict : (nodes clauses columns after : List ℕ) (v : Answer) → 4096 ≤ length words → nodes ≡ nodePart s → clauses ≡ clausePart s
+          → columns ≡ columnsOf (h .signals) n t → v ≡ told (verdict (inOrder (h .clauses) (clauseAt nodes clauses)) (traceOf n columns)) → after ≡ replicate (length words) 0
           → Answered v after
-      unfolding wordsRefusal lowest clausesOf clauseIn nodesOf storedOf
-      check-verdict nodes clauses after v l en ec ev ew =
+      unfolding wordsRefusal lowest clausesOf clauseIn nodesOf storedOf clauseAt
+      check-verdict nodes clauses columns after v l en ec er ev ew =
           answered-as v after (at-words ∙ rw (le-leb 4096 (length words) l))
           (ev
+          ∙ ap (λ (σ : Trace). told (verdict (inOrder (h .clauses) (λ k. clauseOf (nodeAt nodes) (storedAt clauses k))) σ)) (told-accepted s t h n accepted cycled columns er)
           ∙ ap (λ (x : List ℕ). told (verdict (inOrder (h .clauses) (λ k. clauseOf (nodeAt x) (storedAt clauses k))) (cyclesOf t))) en
           ∙ ap (λ (x : List ℕ). told (verdict (inOrder (h .clauses) (λ k. clauseOf (nodeAt (nodePart s)) (storedAt x k))) (cyclesOf t))) ec
           ∙ ap (λ (g : Header). told (verdict (inOrder (g .clauses) (λ k. clauseOf (nodeAt (nodePart s)) (storedAt (clausePart s) k))) (cyclesOf t))) (sym same))
@@ -163,11 +152,13 @@ sound-of s o k l =
 
 -- the clause part is long enough, and its clauses are sound
 pub clauses-sound : (s : List ℕ) (h : Header) (nodes clauses : List ℕ) → sheetAnswer s ≡ Accepted h → nodes ≡ nodePart s → clauses ≡ clausePart s
-    → (11 * h .clauses ≤ length clauses) × ((k : ℕ) → k < h .clauses → Sound nodes (h .nodes) (storedAt clauses k))
+    → Sounds nodes (h .nodes) clauses (h .clauses)
 unfolding storedOf
 clauses-sound s h nodes clauses accepted en ec =
     let o = open-answer s h accepted in
-    let same = answer-accepted s h accepted .1 in (
-      rw (ec, ← same) (let long = length-clauses s o in omega arith),
-      λ k l. rw (en, ec, ← same) (sound-of s o k (rw same l)),
-    )
+    let same = answer-accepted s h accepted .1 in
+    record {
+      few = rw (← same) (o .in-range .few-clauses);
+      long = rw (ec, ← same) (let long = length-clauses s o in omega arith);
+      sound = λ k l. rw (en, ec, ← same) (sound-of s o k (rw same l));
+    }

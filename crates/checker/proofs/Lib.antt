@@ -1,6 +1,5 @@
 pub mod Refusals
 pub mod Opened
-pub mod Copies
 pub mod Whole
 pub mod Verdicts
 pub mod Clauses

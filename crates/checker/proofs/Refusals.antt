@@ -1,7 +1,7 @@
 -- The order of the table operation's refusals.
-use Prim.Native.Nat.{ℕ, _≤_, _<_}
+use Prim.Native.Nat.{ℕ, zero, suc, _≤_, _<_}
 use mathlib.Core.Bool.{Bool, true, false, not, cond, _||_}
-use mathlib.Core.List.{List}
+use mathlib.Core.List.{List, [], _∷_}
 use mathlib.Core.Path.{_≡_, refl, sym, _∙_, ap}
 use native.Mathlib.Omega.{arith}
 use borrow.Author.Tests.{eqb-true, eq-eqb, ltb-true, le-leb, lt-leb}
@@ -18,7 +18,7 @@ use Rattle.stored.specs.Node.{requirementSorts, isFormulaNode}
 use Rattle.stored.specs.Sheet.{headerOf, nodesOf, sheetRefusal, sheetAnswer, sheetNumber}
 use Rattle.stored.specs.Trace.{cycleCount, cyclesOf, traceRefusal, traceAnswer, traceNumber}
 use Rattle.stored.specs.Tree.{pick}
-use Rattle.tables.specs.Table.{standing}
+use Rattle.tables.specs.Table.{standing, Inside}
 use Rattle.checker.specs.declared.table.TableAnswer.{TableAnswer}
 use Rattle.checker.specs.Table.{namePlaced, namesPlaced, heeded, placementOf, tableOf, nodeRules, nodeRefusal, orElse, wordsRefusal, tableRefusal, refusedWith, answerFor, tableAnswer, wordsAfter}
 
@@ -87,20 +87,15 @@ heeded-inside m n u p l h = go (ltb u m) h
     go true e = ltb-true p n e
     go false e = omega arith
 
-pub record Inside (m n p0 p1 p2 : ℕ) : Type 0 where
-  pub inside0 : heeded m 0 p0 < n
-  pub inside1 : heeded m 1 p1 < n
-  pub inside2 : heeded m 2 p2 < n
-
-pub names-inside : (m n p0 p1 p2 : ℕ) → 1 ≤ n → namesPlaced m n p0 p1 p2 ≡ true → Inside m n p0 p1 p2
-unfolding namesPlaced
-names-inside m n p0 p1 p2 l h =
-    let rest = and-right (namePlaced m n 0 p0) _ h in
-    record {
-      inside0 = heeded-inside m n 0 p0 l (and-left (namePlaced m n 0 p0) _ h);
-      inside1 = heeded-inside m n 1 p1 l (and-left (namePlaced m n 1 p1) (namePlaced m n 2 p2) rest);
-      inside2 = heeded-inside m n 2 p2 l (and-right (namePlaced m n 1 p1) (namePlaced m n 2 p2) rest);
-    }
+pub names-inside : (m n p0 p1 p2 : ℕ) → 1 ≤ n → namesPlaced m n p0 p1 p2 ≡ true → Inside n (heeded m 0 p0 ∷ heeded m 1 p1 ∷ heeded m 2 p2 ∷ [])
+unfolding namesPlaced standing
+names-inside m n p0 p1 p2 l h = record { stands = stands }
+  where
+    stands : (u : ℕ) → u < 3 → standing (heeded m 0 p0 ∷ heeded m 1 p1 ∷ heeded m 2 p2 ∷ []) u < n
+    stands zero k = heeded-inside m n 0 p0 l (and-left (namePlaced m n 0 p0) _ h)
+    stands (suc zero) k = heeded-inside m n 1 p1 l (and-left (namePlaced m n 1 p1) (namePlaced m n 2 p2) (and-right (namePlaced m n 0 p0) _ h))
+    stands (suc (suc zero)) k = heeded-inside m n 2 p2 l (and-right (namePlaced m n 1 p1) (namePlaced m n 2 p2) (and-right (namePlaced m n 0 p0) _ h))
+    stands (suc (suc (suc u))) k = absurd (omega arith)
 
 words-few : (words : List ℕ) → length words < 4096 → wordsRefusal words ≡ 15
 unfolding wordsRefusal lowest
@@ -109,11 +104,6 @@ words-few words l = rw (lt-leb 4096 (length words) l)
 words-many : (words : List ℕ) → 4096 ≤ length words → wordsRefusal words ≡ 0
 unfolding wordsRefusal lowest
 words-many words l = rw (le-leb 4096 (length words) l)
-
--- the cycles that are heeded
-pub placed-as : (m p0 p1 p2 q0 q1 q2 : ℕ) → q0 ≡ heeded m 0 p0 → q1 ≡ heeded m 1 p1 → q2 ≡ heeded m 2 p2 → standing q0 q1 q2 ≡ placementOf m p0 p1 p2
-unfolding placementOf
-placed-as m p0 p1 p2 q0 q1 q2 a b c = rw (a, b, c)
 
 -- the whole order
 module _ (s t : List ℕ) (node p0 p1 p2 : ℕ) (words : List ℕ) where

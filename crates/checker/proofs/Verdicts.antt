@@ -4,23 +4,28 @@ use native.Mathlib.Omega.{arith}
 use mathlib.Core.Bool.{Bool, true, false}
 use mathlib.Core.Logic.{inl, inr}
 use native.Mathlib.Nat.{eq-or-lt-of-le}
-use mathlib.Core.Path.{_≡_, refl, sym, ap, _∙_}
+use mathlib.Core.List.{List}
+use mathlib.Core.Path.{_≡_, refl, sym, ap, subst, _∙_}
 use lib.Dec.{eqb}
 use lib.ListN.{length}
 use borrow.Author.Tests.{eq-eqb, ne-eqb, lt-ltb}
 use Rattle.semantics.specs.Proposition.{Trace}
-use Rattle.semantics.specs.Clause.{assumption, commitment, Clause, breaks, fails}
+use Rattle.semantics.specs.Clause.{Role, assumption, commitment, Clause, breaks, fails}
 use Rattle.semantics.specs.Verdict as semantics
 use Rattle.semantics.specs.Verdict.{sameRole, hasRole, failsAs, firstPlace, excusedOr, brokenOr, verdict}
 use Rattle.semantics.proofs.Tests.{and-intro, and-false-left, and-false-right}
 use Rattle.stored.specs.declared.Node.{Node}
 use Rattle.stored.specs.declared.StoredClause.{StoredClause}
 use Rattle.stored.specs.Bytes.{inOrder}
-use Rattle.stored.specs.Clause.{clauseOf, roleOf}
+use Rattle.stored.specs.Clause.{storedAt, clauseOf, roleOf}
+use Rattle.stored.specs.Columns.{traceOf}
+use Rattle.stored.specs.Node.{nodeAt}
 use Rattle.checker.specs.declared.check.Answer.the-variants.{Excused, Broken, Holds}
 use Rattle.places.specs.Places.{places, numbered, IsLeast}
+use Rattle.checker.specs.declared.check.Failing.{Failing}
 use Rattle.checker.specs.Check.{told}
-use Rattle.checker.specs.Clauses.{First, placeOf}
+use Rattle.checker.specs.Clauses.{PlaceIs, First, FailingIs, clauseAt, placeOf}
+use Rattle.places.specs.Laid.{Laid}
 use Rattle.places.proofs.Places.{fails-least, place-least}
 
 -- ---- the first failing clause of a list in order
@@ -102,7 +107,7 @@ module _ (x : ℕ → Node) (d : StoredClause) (role : ℕ) (h : role ≤ 1) (l 
   unfolding failsAs
   other-role ne = and-false-left (hasRole (roleOf role) (clauseOf x d)) (fails (clauseOf x d) σ) (role-of x d role h l ∙ ne-eqb (d .role) role ne)
 
-  module _ (short : length σ ≤ 64) (r : ℕ) (least : IsLeast (numbered (length σ) (breaks (clauseOf x d) σ)) r) where
+  module _ (short : length σ ≤ 64) (r : ℕ) (least : IsLeast places (numbered (length σ) (breaks (clauseOf x d) σ)) r) where
     pub no-place : places ≤ r → failsAs (roleOf role) σ (clauseOf x d) ≡ false
     unfolding failsAs
     no-place m =
@@ -120,3 +125,17 @@ pub one-more : (p : ℕ → Bool) (k : ℕ) → ((j : ℕ) → j < k → p j ≡
 one-more p k f e j h =
     let o : j ≤ k = omega arith in
     elim (eq-or-lt-of-le o) [ inl q ↦ rw q e | inr l ↦ f j l ]
+
+-- the place of a stored clause that was read, over the trace that was told before
+pub place-at : {reach columns words : List ℕ} {count n place : ℕ} {σ : Trace} {d : StoredClause} (nodes clauses : List ℕ) (k : ℕ) (role : Role) → Laid nodes count n reach σ columns words
+    → d ≡ storedAt clauses k → PlaceIs role (clauseOf (nodeAt nodes) d) (traceOf n columns) place → PlaceIs role (clauseAt nodes clauses k) σ place
+unfolding clauseAt
+place-at {place = place} {σ} {d} nodes clauses k role l e p =
+    subst (λ (d : StoredClause). PlaceIs role (clauseOf (nodeAt nodes) d) σ place) e
+    (subst (λ (τ : Trace). PlaceIs role (clauseOf (nodeAt nodes) d) τ place) (l .told) p)
+
+-- the first failing clause that was told, over the trace that was told before
+pub failing-again : {nodes reach columns words : List ℕ} {count n : ℕ} {σ : Trace} {x y : Failing} (role : Role) (f : ℕ → Clause) (c : ℕ) → Laid nodes count n reach σ columns words
+    → x ≡ y → FailingIs role f c (traceOf n columns) x → FailingIs role f c σ y
+failing-again {σ = σ} {x} role f c l e w =
+    subst (λ (z : Failing). FailingIs role f c σ z) e (subst (λ (τ : Trace). FailingIs role f c τ x) (l .told) w)

@@ -8,12 +8,15 @@ use Rattle.stored.specs.declared.SheetAnswer.{SheetAnswer}
 use Rattle.stored.specs.declared.SheetAnswer.the-variants.{Accepted}
 use Rattle.stored.specs.declared.TraceAnswer.{TraceAnswer}
 use Rattle.stored.specs.declared.TraceAnswer.the-variants.{Cycles}
+use Rattle.semantics.specs.Proposition.{Trace}
+use Rattle.stored.specs.Columns.{columnsOf, traceOf}
 use Rattle.stored.specs.Node.{nodeAt}
 use Rattle.stored.specs.Sheet.{headerOf, nodePart, nodesOf, sheetRefusal, sheetAnswer, sheetNumber}
 use Rattle.stored.specs.Trace.{cycleCount, cyclesOf, traceRefusal, traceAnswer, traceNumber}
 use Rattle.stored.proofs.Accepted.{answer-accepted, cycles-accepted, answer-refused, cycles-refused}
 use Rattle.checker.specs.declared.table.TableAnswer.{TableAnswer}
 use Rattle.checker.specs.Table.{placementOf, tableOf, nodeRefusal, answerFor, tableRefusal, tableAnswer, wordsAfter}
+use Rattle.checker.proofs.Opened.{cycled-as, told-accepted}
 use Rattle.checker.proofs.Refusals.{Refuses, sheet-number, trace-number, by-sheet, by-trace, by-words, by-node}
 
 module _ (s t : List ℕ) (node p0 p1 p2 : ℕ) (words : List ℕ) where
@@ -37,14 +40,11 @@ module _ (s t : List ℕ) (node p0 p1 p2 : ℕ) (words : List ℕ) where
     same : headerOf s ≡ h
     same = answer-accepted s h accepted .1
 
-    cycled′ : traceAnswer (headerOf s .signals) t ≡ Cycles n
-    cycled′ = ap (λ (g : Header). traceAnswer (g .signals) t) same ∙ cycled
-
     none-trace : traceRefusal (headerOf s .signals) t ≡ 0
-    none-trace = cycles-accepted (headerOf s .signals) t n cycled′ .0
+    none-trace = cycles-accepted (headerOf s .signals) t n (cycled-as s t h n accepted cycled) .0
 
     many : cycleCount t ≡ n
-    many = cycles-accepted (headerOf s .signals) t n cycled′ .1
+    many = cycles-accepted (headerOf s .signals) t n (cycled-as s t h n accepted cycled) .1
 
     pub words-refuse : length words < 4096 → Refuses s t node p0 p1 p2 words 15
     words-refuse l = by-words s t node p0 p1 p2 words none-sheet none-trace l
@@ -58,13 +58,15 @@ module _ (s t : List ℕ) (node p0 p1 p2 : ℕ) (words : List ℕ) where
     After : List ℕ → ℕ → Header → List ℕ
     After w k g = wordsAfter (nodeRefusal (nodeAt w) (g .nodes) k (g .names) node p0 p1 p2) words
 
-    pub table-whole : (nodes new : List ℕ) (answer : TableAnswer) → 4096 ≤ length words → nodes ≡ nodePart s
-        → answer ≡ answerFor (nodeRefusal (nodeAt nodes) (h .nodes) n (h .names) node p0 p1 p2) (tableOf (nodeAt nodes) (cyclesOf t) node (placementOf (h .names) p0 p1 p2))
+    pub table-whole : (nodes columns new : List ℕ) (answer : TableAnswer) → 4096 ≤ length words → nodes ≡ nodePart s → columns ≡ columnsOf (h .signals) n t
+        → answer ≡ answerFor (nodeRefusal (nodeAt nodes) (h .nodes) n (h .names) node p0 p1 p2) (tableOf (nodeAt nodes) (traceOf n columns) node (placementOf (h .names) p0 p1 p2))
         → new ≡ wordsAfter (nodeRefusal (nodeAt nodes) (h .nodes) n (h .names) node p0 p1 p2) words
         → (answer ≡ tableAnswer s t node p0 p1 p2 words) × (new ≡ wordsAfter (tableRefusal s t node p0 p1 p2 words) words)
     unfolding tableAnswer nodesOf Answer After
-    table-whole nodes new answer l e a b = (
+    table-whole nodes columns new answer l e er a b = (
       a
+          ∙ ap (λ (σ : Trace). answerFor (nodeRefusal (nodeAt nodes) (h .nodes) n (h .names) node p0 p1 p2) (tableOf (nodeAt nodes) σ node (placementOf (h .names) p0 p1 p2)))
+          (told-accepted s t h n accepted cycled columns er)
           ∙ ap (λ (w : List ℕ). Answer w n h) e
           ∙ ap (λ (k : ℕ). Answer (nodePart s) k h) (sym many)
           ∙ ap (λ (g : Header). Answer (nodePart s) (cycleCount t) g) (sym same)

@@ -1,5 +1,5 @@
 -- What the loops over a sheet's clauses promise one another; a reader need not believe it.
-use Prim.Native.Nat.{ℕ, _/_, _%_, _^_, _≤_, _<_}
+use Prim.Native.Nat.{ℕ, _*_, _/_, _%_, _^_, _≤_, _<_}
 use mathlib.Core.Bool.{true, false}
 use mathlib.Core.List.{List}
 use mathlib.Core.Path.{_≡_}
@@ -10,7 +10,7 @@ use Rattle.semantics.specs.Reach.{clauseFits}
 use Rattle.semantics.specs.Verdict.{failsAs}
 use Rattle.stored.specs.declared.StoredClause.{StoredClause}
 use Rattle.stored.specs.Node.{nodeAt}
-use Rattle.stored.specs.Clause.{clauseOf}
+use Rattle.stored.specs.Clause.{storedAt, clauseOf}
 use Rattle.places.specs.Places.{places, numbered, IsLeast}
 use Rattle.places.specs.Task.{taskOf}
 use Rattle.places.specs.Laid.{Formulas}
@@ -29,18 +29,28 @@ pub record Sound (nodes : List ℕ) (count : ℕ) (d : StoredClause) : Type 0 wh
   pub formulas : Formulas nodes count (taskOf d)
   pub fits : clauseFits (clauseOf (nodeAt nodes) d) ≡ true
 
+-- c stored clauses that the check takes
+pub record Sounds (nodes : List ℕ) (count : ℕ) (clauses : List ℕ) (c : ℕ) : Type 0 where
+  pub few : c ≤ 8
+  pub long : 11 * c ≤ length clauses
+  pub sound : (k : ℕ) → k < c → Sound nodes count (storedAt clauses k)
+
+-- clause k of stored nodes and clauses
+unfoldable pub clauseAt : List ℕ → List ℕ → ℕ → Clause
+clauseAt nodes clauses k = clauseOf (nodeAt nodes) (storedAt clauses k)
+
 -- the number of the clause's first broken place if it has the role and fails, else `places`
 pub record PlaceIs (r : Role) (c : Clause) (σ : Trace) (place : ℕ) : Type 0 where
   pub none : places ≤ place → failsAs r σ c ≡ false
   pub some : place < places → failsAs r σ c ≡ true
-  pub least : place < places → IsLeast (numbered (length σ) (breaks c σ)) place
+  pub least : place < places → IsLeast places (numbered (length σ) (breaks c σ)) place
 
 -- the first of c clauses that fails in its role, with the number of its first broken place
 pub record First (r : Role) (f : ℕ → Clause) (c : ℕ) (σ : Trace) (k place : ℕ) : Type 0 where
   pub below : k < c
   pub before : (j : ℕ) → j < k → failsAs r σ (f j) ≡ false
   pub fails : failsAs r σ (f k) ≡ true
-  pub least : IsLeast (numbered (length σ) (breaks (f k) σ)) place
+  pub least : IsLeast places (numbered (length σ) (breaks (f k) σ)) place
   pub found : place < places
 
 abbrev pub FailingIs : Role → (ℕ → Clause) → ℕ → Trace → Failing → Type 0

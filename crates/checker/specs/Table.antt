@@ -29,7 +29,7 @@ unfoldable pub heeded : ℕ → ℕ → ℕ → ℕ
 heeded m u p = cond (ltb u m) p 0
 
 unfoldable pub placementOf : ℕ → ℕ → ℕ → ℕ → Placement
-placementOf m p0 p1 p2 = standing (heeded m 0 p0) (heeded m 1 p1) (heeded m 2 p2)
+placementOf m p0 p1 p2 = standing (heeded m 0 p0 ∷ heeded m 1 p1 ∷ heeded m 2 p2 ∷ [])
 
 -- the 64 rows of a formula node over a trace
 unfoldable pub tableOf : (ℕ → Node) → Trace → ℕ → Placement → List ℕ

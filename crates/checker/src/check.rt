@@ -1,8 +1,11 @@
 // The check: the verdict of a sheet on a trace.
-use places::place::places0;
 use places::search::PLACES;
 use places::task::task_of;
+use places::walk::Job;
+use places::walk::Spot;
+use places::walk::walk;
 use stored::SheetAnswer;
+use stored::StoredClause;
 use stored::TraceAnswer;
 use stored::clauses::stored_at;
 use stored::masks::reach_table;
@@ -10,9 +13,10 @@ use stored::sheet::clause_part;
 use stored::sheet::node_part;
 use stored::sheet::read_sheet;
 use stored::sheet::sheet_number;
+use stored::trace::columns;
 use stored::trace::read_trace;
 use stored::trace::trace_number;
-use tables::fill::fill;
+use tables::fill::lay_first;
 use tables::words::clear;
 ghost use mathlib.Core.Path.{_≡_};
 ghost use Prim.Native.Nat.{ℕ, _+_, _*_, _<_, _≤_};
@@ -20,15 +24,15 @@ ghost use lib.ListN.{length, replicate};
 ghost use Rattle.semantics.specs.Clause.{breaks};
 ghost use Rattle.stored.specs.Node.{nodeAt};
 ghost use Rattle.stored.specs.Bytes.{inOrder};
-ghost use Rattle.stored.specs.Clause.{storedAt, clauseOf, roleOf};
-ghost use Rattle.stored.specs.Trace.{cyclesOf};
+ghost use Rattle.stored.specs.Clause.{clauseOf, roleOf};
+ghost use Rattle.stored.specs.Columns.{traceOf};
 ghost use Rattle.semantics.specs.Verdict.{verdict};
 ghost use Rattle.tables.specs.Ready.{Given};
-ghost use Rattle.places.specs.Places.{numbered, IsLeast};
+ghost use Rattle.places.specs.Places.{places, numbered, IsLeast};
 ghost use Rattle.places.specs.Laid.{Laid};
 ghost use Rattle.checker.specs.Table.{wordsAfter};
 ghost use Rattle.checker.specs.Check.{told, checkAnswer, checkRefusal};
-ghost use Rattle.checker.specs.Clauses.{Sound, PlaceIs, FailingIs, placeOf};
+ghost use Rattle.checker.specs.Clauses.{Sound, Sounds, clauseAt, PlaceIs, FailingIs, placeOf};
 
 // A clause's number and its three cycles.
 pub struct Place {
@@ -52,85 +56,89 @@ pub enum Failing {
     Nothing,
 }
 
-// The number of clause k's first broken place, or PLACES.
-fn clause_place(
-    clauses: &[u8],
-    k: usize,
-    nodes: &[u8],
-    count: usize,
-    trace: &[u8],
-    n: usize,
-    reach: &[usize],
-    stood: &mut [usize],
-    words: &mut [u64],
-) -> usize
-    requires { ⌜ Laid (now nodes) count (now trace) n (now reach) (now stood) (now words) ⌝ }
-    requires { ⌜ (11 * k + 11 ≤ length (now clauses)) × Sound (now nodes) count (storedAt (now clauses) k) ⌝ }
-    ensures { λ r. ⌜ Laid (now (nodes .entry)) count (now (trace .entry)) n (now (reach .entry)) (now (stood .exit)) (now (words .exit)) ⌝ }
-    ensures { λ r. ⌜ IsLeast (numbered (length (cyclesOf (now (trace .entry)))) (breaks (clauseOf (nodeAt (now (nodes .entry))) (storedAt (now (clauses .entry)) k)) (cyclesOf (now (trace .entry))))) r ⌝ }
-{
-    let d = stored_at(clauses, k);
-    let task = task_of(d);
-    places0(task, nodes, count, trace, n, reach, stood, 0, 0, 0, words)
+// How many nodes, clauses and cycles a check goes over.
+pub struct Sizes {
+    pub nodes: usize,
+    pub clauses: usize,
+    pub cycles: usize,
 }
 
-// The same if clause k has the role; PLACES if it has another.
+// The number of a clause's first broken place, or PLACES.
+fn clause_place(
+    d: StoredClause,
+    sizes: Sizes,
+    nodes: &[u8],
+    reach: &[usize],
+    columns: &mut [u64],
+    words: &mut [u64],
+    rows: &mut [u64],
+) -> usize
+    requires { ⌜ Laid (now nodes) (sizes .nodes) (sizes .cycles) (now reach) (traceOf (sizes .cycles) (now columns)) (now columns) (now words) ⌝ }
+    requires { ⌜ Sound (now nodes) (sizes .nodes) d × (length (now rows) ≡ 64) ⌝ }
+    ensures { λ r. ⌜ Laid (now (nodes .entry)) (sizes .nodes) (sizes .cycles) (now (reach .entry)) (traceOf (sizes .cycles) (now (columns .entry))) (now (columns .exit)) (now (words .exit)) ⌝ }
+    ensures { λ r. ⌜ length (now (rows .exit)) ≡ 64 ⌝ }
+    ensures { λ r. ⌜ IsLeast places (numbered (length (traceOf (sizes .cycles) (now (columns .entry)))) (breaks (clauseOf (nodeAt (now (nodes .entry))) d) (traceOf (sizes .cycles) (now (columns .entry))))) r ⌝ }
+{
+    let task = task_of(d);
+    let job = Job {
+        task,
+        count: sizes.nodes,
+        n: sizes.cycles,
+        answering: false,
+        names: task.quantified,
+    };
+    let spot = Spot {
+        left: 3,
+        cycles: [0; 3],
+    };
+    walk(spot, job, PLACES, nodes, reach, columns, words, rows)
+}
+
+// The same if the clause has the role; PLACES if it has another.
 fn role_place(
     role: usize,
-    clauses: &[u8],
-    k: usize,
+    d: StoredClause,
+    sizes: Sizes,
     nodes: &[u8],
-    count: usize,
-    trace: &[u8],
-    n: usize,
     reach: &[usize],
-    stood: &mut [usize],
+    columns: &mut [u64],
     words: &mut [u64],
+    rows: &mut [u64],
 ) -> usize
-    requires { ⌜ Laid (now nodes) count (now trace) n (now reach) (now stood) (now words) ⌝ }
-    requires { ⌜ (role ≤ 1) × (11 * k + 11 ≤ length (now clauses)) × Sound (now nodes) count (storedAt (now clauses) k) ⌝ }
-    ensures { λ r. ⌜ Laid (now (nodes .entry)) count (now (trace .entry)) n (now (reach .entry)) (now (stood .exit)) (now (words .exit)) ⌝ }
-    ensures { λ r. ⌜ PlaceIs (roleOf role) (clauseOf (nodeAt (now (nodes .entry))) (storedAt (now (clauses .entry)) k)) (cyclesOf (now (trace .entry))) r ⌝ }
+    requires { ⌜ Laid (now nodes) (sizes .nodes) (sizes .cycles) (now reach) (traceOf (sizes .cycles) (now columns)) (now columns) (now words) ⌝ }
+    requires { ⌜ (role ≤ 1) × Sound (now nodes) (sizes .nodes) d × (length (now rows) ≡ 64) ⌝ }
+    ensures { λ r. ⌜ Laid (now (nodes .entry)) (sizes .nodes) (sizes .cycles) (now (reach .entry)) (traceOf (sizes .cycles) (now (columns .entry))) (now (columns .exit)) (now (words .exit)) ⌝ }
+    ensures { λ r. ⌜ length (now (rows .exit)) ≡ 64 ⌝ }
+    ensures { λ r. ⌜ PlaceIs (roleOf role) (clauseOf (nodeAt (now (nodes .entry))) d) (traceOf (sizes .cycles) (now (columns .entry))) r ⌝ }
 {
-    let d = stored_at(clauses, k);
     if d.role != role {
         return PLACES;
     }
-    clause_place(clauses, k, nodes, count, trace, n, reach, stood, words)
+    clause_place(d, sizes, nodes, reach, columns, words, rows)
 }
 
 // The first clause with the role that fails.
 fn first_failing(
     role: usize,
     clauses: &[u8],
-    c: usize,
+    sizes: Sizes,
     nodes: &[u8],
-    count: usize,
-    trace: &[u8],
-    n: usize,
     reach: &[usize],
-    stood: &mut [usize],
+    columns: &mut [u64],
     words: &mut [u64],
+    rows: &mut [u64],
 ) -> Failing
-    requires { ⌜ Laid (now nodes) count (now trace) n (now reach) (now stood) (now words) ⌝ }
-    requires { ⌜ (role ≤ 1) × (11 * c ≤ length (now clauses)) × ((k : ℕ) → k < c → Sound (now nodes) count (storedAt (now clauses) k)) ⌝ }
-    ensures { λ r. ⌜ Laid (now (nodes .entry)) count (now (trace .entry)) n (now (reach .entry)) (now (stood .exit)) (now (words .exit)) ⌝ }
-    ensures { λ r. ⌜ FailingIs (roleOf role) (λ k. clauseOf (nodeAt (now (nodes .entry))) (storedAt (now (clauses .entry)) k)) c (cyclesOf (now (trace .entry))) r ⌝ }
+    requires { ⌜ Laid (now nodes) (sizes .nodes) (sizes .cycles) (now reach) (traceOf (sizes .cycles) (now columns)) (now columns) (now words) ⌝ }
+    requires { ⌜ (role ≤ 1) × Sounds (now nodes) (sizes .nodes) (now clauses) (sizes .clauses) × (length (now rows) ≡ 64) ⌝ }
+    ensures { λ r. ⌜ Laid (now (nodes .entry)) (sizes .nodes) (sizes .cycles) (now (reach .entry)) (traceOf (sizes .cycles) (now (columns .entry))) (now (columns .exit)) (now (words .exit)) ⌝ }
+    ensures { λ r. ⌜ length (now (rows .exit)) ≡ 64 ⌝ }
+    ensures { λ r. ⌜ FailingIs (roleOf role) (clauseAt (now (nodes .entry)) (now (clauses .entry))) (sizes .clauses) (traceOf (sizes .cycles) (now (columns .entry))) r ⌝ }
 {
+    let many = sizes.clauses;
     let mut k = 0;
-    while k < c {
-        let place = role_place(
-            role,
-            clauses,
-            k,
-            nodes,
-            count,
-            trace,
-            n,
-            reach,
-            stood,
-            words,
-        );
+    while k < many {
+        let d = stored_at(clauses, k);
+        let place = role_place(role, d, sizes, nodes, reach, columns, words, rows);
         if place < PLACES {
             return Failing::At(k, place);
         }
@@ -154,35 +162,22 @@ fn place_of(clause: usize, number: usize) -> Place
 // The verdict over tables in the words.
 fn verdict_over(
     clauses: &[u8],
-    c: usize,
+    sizes: Sizes,
     nodes: &[u8],
-    count: usize,
-    trace: &[u8],
-    n: usize,
     reach: &[usize],
-    stood: &mut [usize],
+    columns: &mut [u64],
     words: &mut [u64],
+    rows: &mut [u64],
 ) -> Answer
-    requires { ⌜ Laid (now nodes) count (now trace) n (now reach) (now stood) (now words) ⌝ }
-    requires { ⌜ (11 * c ≤ length (now clauses)) × ((k : ℕ) → k < c → Sound (now nodes) count (storedAt (now clauses) k)) ⌝ }
-    ensures { λ r. ⌜ r ≡ told (verdict (inOrder c (λ k. clauseOf (nodeAt (now (nodes .entry))) (storedAt (now (clauses .entry)) k))) (cyclesOf (now (trace .entry)))) ⌝ }
+    requires { ⌜ Laid (now nodes) (sizes .nodes) (sizes .cycles) (now reach) (traceOf (sizes .cycles) (now columns)) (now columns) (now words) ⌝ }
+    requires { ⌜ Sounds (now nodes) (sizes .nodes) (now clauses) (sizes .clauses) × (length (now rows) ≡ 64) ⌝ }
+    ensures { λ r. ⌜ r ≡ told (verdict (inOrder (sizes .clauses) (clauseAt (now (nodes .entry)) (now (clauses .entry)))) (traceOf (sizes .cycles) (now (columns .entry)))) ⌝ }
 {
-    let assumption = first_failing(0, clauses, c, nodes, count, trace, n, reach, stood, words);
+    let assumption = first_failing(0, clauses, sizes, nodes, reach, columns, words, rows);
     match assumption {
         Failing::At(clause, _) => Answer::Excused(clause),
         Failing::Nothing => {
-            let commitment = first_failing(
-                1,
-                clauses,
-                c,
-                nodes,
-                count,
-                trace,
-                n,
-                reach,
-                stood,
-                words,
-            );
+            let commitment = first_failing(1, clauses, sizes, nodes, reach, columns, words, rows);
             match commitment {
                 Failing::At(clause, number) => Answer::Broken(place_of(clause, number)),
                 Failing::Nothing => Answer::Holds,
@@ -194,32 +189,21 @@ fn verdict_over(
 // The verdict of accepted parts, and the words cleared.
 fn verdict_of(
     clauses: &[u8],
-    c: usize,
+    sizes: Sizes,
     nodes: &[u8],
-    count: usize,
-    trace: &[u8],
-    n: usize,
+    columns: &mut [u64],
     words: &mut [u64],
 ) -> Answer
-    requires { ⌜ Given (now nodes) count (now trace) n 0 0 0 (now words) ⌝ }
-    requires { ⌜ (11 * c ≤ length (now clauses)) × ((k : ℕ) → k < c → Sound (now nodes) count (storedAt (now clauses) k)) ⌝ }
-    ensures { λ r. ⌜ r ≡ told (verdict (inOrder c (λ k. clauseOf (nodeAt (now (nodes .entry))) (storedAt (now (clauses .entry)) k))) (cyclesOf (now (trace .entry)))) ⌝ }
+    requires { ⌜ Given (now nodes) (sizes .nodes) (sizes .cycles) (now columns) (now words) ⌝ }
+    requires { ⌜ Sounds (now nodes) (sizes .nodes) (now clauses) (sizes .clauses) ⌝ }
+    ensures { λ r. ⌜ r ≡ told (verdict (inOrder (sizes .clauses) (clauseAt (now (nodes .entry)) (now (clauses .entry)))) (traceOf (sizes .cycles) (now (columns .entry)))) ⌝ }
     ensures { λ r. ⌜ now (words .exit) ≡ replicate (length (now (words .entry))) 0 ⌝ }
 {
+    let count = sizes.nodes;
     let reach = reach_table(nodes, count);
-    let mut stood = [0usize; 3];
-    fill(nodes, count, trace, n, &reach, 8, 0, 0, 0, words);
-    let answer = verdict_over(
-        clauses,
-        c,
-        nodes,
-        count,
-        trace,
-        n,
-        &reach,
-        &mut stood,
-        words,
-    );
+    let mut rows = [0u64; 64];
+    lay_first(nodes, count, sizes.cycles, [0; 3], columns, words);
+    let answer = verdict_over(clauses, sizes, nodes, &reach, columns, words, &mut rows);
     clear(words);
     answer
 }
@@ -242,5 +226,11 @@ pub fn check(sheet: &[u8], trace: &[u8], words: &mut [u64]) -> Answer
     }
     let nodes = node_part(sheet, h);
     let clauses = clause_part(sheet, h);
-    verdict_of(clauses, h.clauses, nodes, h.nodes, trace, n, words)
+    let sizes = Sizes {
+        nodes: h.nodes,
+        clauses: h.clauses,
+        cycles: n,
+    };
+    let mut columns = columns(trace, h.signals, n);
+    verdict_of(clauses, sizes, nodes, &mut columns, words)
 }

@@ -1,23 +1,25 @@
 // The interval table of one node.
 ghost use mathlib.Core.Path.{_≡_};
 ghost use Prim.Native.Nat.{_+_, _*_, _≤_, _<_};
-ghost use lib.ListN.{length, replicate};
+ghost use lib.ListN.{length, getD, replicate};
+ghost use mathlib.Core.List.{[], _∷_};
 ghost use Rattle.stored.specs.Bytes.{inOrder};
 ghost use Rattle.stored.specs.Node.{nodeAt, requirementSorts, sortOf, formula, isFormulaNode};
-ghost use Rattle.stored.specs.Trace.{cyclesOf};
-ghost use Rattle.tables.specs.Table.{standing, rowAt};
+ghost use Rattle.stored.specs.Columns.{traceOf};
+ghost use Rattle.stored.specs.Tree.{earlier};
+ghost use Rattle.tables.specs.Table.{standing, Inside, rowAt};
 ghost use Rattle.tables.specs.Ready.{Given};
 ghost use Rattle.checker.specs.Table.{namePlaced, namesPlaced, heeded, placementOf, tableOf, nodeRefusal, answerFor, refusedWith, wordsAfter, tableAnswer, tableRefusal};
 use stored::SheetAnswer;
 use stored::TraceAnswer;
-use stored::masks::reach_table;
 use stored::nodes::is_formula_node;
 use stored::sheet::node_part;
 use stored::sheet::read_sheet;
 use stored::sheet::sheet_number;
+use stored::trace::columns;
 use stored::trace::read_trace;
 use stored::trace::trace_number;
-use tables::fill::fill;
+use tables::fill::lay_first;
 use tables::words::clear;
 use tables::words::row_at;
 
@@ -44,12 +46,12 @@ fn name_placed(m: usize, n: usize, u: usize, p: usize) -> bool
     !named | (p < n)
 }
 
-fn names_placed(m: usize, n: usize, p0: usize, p1: usize, p2: usize) -> bool
-    ensures { λ r. ⌜ r ≡ namesPlaced m n p0 p1 p2 ⌝ }
+fn names_placed(m: usize, n: usize, given: [usize; 3]) -> bool
+    ensures { λ r. ⌜ r ≡ namesPlaced m n (getD given 0 0) (getD given 1 0) (getD given 2 0) ⌝ }
 {
-    let first = name_placed(m, n, 0, p0);
-    let second = name_placed(m, n, 1, p1);
-    let third = name_placed(m, n, 2, p2);
+    let first = name_placed(m, n, 0, given[0]);
+    let second = name_placed(m, n, 1, given[1]);
+    let third = name_placed(m, n, 2, given[2]);
     first & (second & third)
 }
 
@@ -60,14 +62,24 @@ fn heed(m: usize, u: usize, p: usize) -> usize
     if u < m { p } else { 0 }
 }
 
-// The rows of node i.
-fn copy_rows(words: &[u64], i: usize) -> [u64; 64]
-    requires { ⌜ 64 * i + 64 ≤ length (now words) ⌝ }
-    ensures { λ r. ⌜ r ≡ inOrder 64 (rowAt (now (words .entry)) i) ⌝ }
+// The cycles that are heeded.
+fn heed_all(m: usize, given: [usize; 3]) -> [usize; 3]
+    ensures { λ r. ⌜ r ≡ heeded m 0 (getD given 0 0) ∷ heeded m 1 (getD given 1 0) ∷ heeded m 2 (getD given 2 0) ∷ [] ⌝ }
+{
+    let first = heed(m, 0, given[0]);
+    let second = heed(m, 1, given[1]);
+    let third = heed(m, 2, given[2]);
+    [first, second, third]
+}
+
+// The rows of node i, those past the last cycle zero.
+fn copy_rows(words: &[u64], i: usize, n: usize) -> [u64; 64]
+    requires { ⌜ (64 * i + 64 ≤ length (now words)) × (n ≤ 64) ⌝ }
+    ensures { λ r. ⌜ r ≡ inOrder 64 (earlier n 0 (rowAt (now (words .entry)) i)) ⌝ }
 {
     let mut rows = [0u64; 64];
     let mut b = 0;
-    while b < 64 {
+    while b < n {
         rows[b] = row_at(words, i, b);
         b += 1;
     }
@@ -78,22 +90,19 @@ fn copy_rows(words: &[u64], i: usize) -> [u64; 64]
 fn rows_of(
     nodes: &[u8],
     count: usize,
-    trace: &[u8],
     n: usize,
     node: usize,
-    p0: usize,
-    p1: usize,
-    p2: usize,
+    cycles: [usize; 3],
+    columns: &mut [u64],
     words: &mut [u64],
 ) -> [u64; 64]
-    requires { ⌜ Given (now nodes) count (now trace) n p0 p1 p2 (now words) ⌝ }
+    requires { ⌜ Given (now nodes) count n (now columns) (now words) × Inside n cycles ⌝ }
     requires { ⌜ (node < count) × (sortOf requirementSorts (nodeAt (now nodes) node .op) ≡ formula) ⌝ }
-    ensures { λ r. ⌜ r ≡ tableOf (nodeAt (now (nodes .entry))) (cyclesOf (now (trace .entry))) node (standing p0 p1 p2) ⌝ }
+    ensures { λ r. ⌜ r ≡ tableOf (nodeAt (now (nodes .entry))) (traceOf n (now (columns .entry))) node (standing cycles) ⌝ }
     ensures { λ r. ⌜ now (words .exit) ≡ replicate (length (now (words .entry))) 0 ⌝ }
 {
-    let reach = reach_table(nodes, count);
-    fill(nodes, count, trace, n, &reach, 8, p0, p1, p2, words);
-    let rows = copy_rows(words, node);
+    lay_first(nodes, count, n, cycles, columns, words);
+    let rows = copy_rows(words, node, n);
     clear(words);
     rows
 }
@@ -102,29 +111,24 @@ fn rows_of(
 fn node_table(
     nodes: &[u8],
     count: usize,
-    trace: &[u8],
     n: usize,
     m: usize,
     node: usize,
-    p0: usize,
-    p1: usize,
-    p2: usize,
+    given: [usize; 3],
+    columns: &mut [u64],
     words: &mut [u64],
 ) -> TableAnswer
-    requires { ⌜ Given (now nodes) count (now trace) n 0 0 0 (now words) ⌝ }
-    ensures { λ r. ⌜ r ≡ answerFor (nodeRefusal (nodeAt (now (nodes .entry))) count n m node p0 p1 p2) (tableOf (nodeAt (now (nodes .entry))) (cyclesOf (now (trace .entry))) node (placementOf m p0 p1 p2)) ⌝ }
-    ensures { λ r. ⌜ now (words .exit) ≡ wordsAfter (nodeRefusal (nodeAt (now (nodes .entry))) count n m node p0 p1 p2) (now (words .entry)) ⌝ }
+    requires { ⌜ Given (now nodes) count n (now columns) (now words) ⌝ }
+    ensures { λ r. ⌜ r ≡ answerFor (nodeRefusal (nodeAt (now (nodes .entry))) count n m node (getD given 0 0) (getD given 1 0) (getD given 2 0)) (tableOf (nodeAt (now (nodes .entry))) (traceOf n (now (columns .entry))) node (placementOf m (getD given 0 0) (getD given 1 0) (getD given 2 0))) ⌝ }
+    ensures { λ r. ⌜ now (words .exit) ≡ wordsAfter (nodeRefusal (nodeAt (now (nodes .entry))) count n m node (getD given 0 0) (getD given 1 0) (getD given 2 0)) (now (words .entry)) ⌝ }
 {
     if !is_formula_node(nodes, count, node) {
         return refused(16);
     }
-    if !names_placed(m, n, p0, p1, p2) {
+    if !names_placed(m, n, given) {
         return refused(17);
     }
-    let q0 = heed(m, 0, p0);
-    let q1 = heed(m, 1, p1);
-    let q2 = heed(m, 2, p2);
-    let rows = rows_of(nodes, count, trace, n, node, q0, q1, q2, words);
+    let rows = rows_of(nodes, count, n, node, heed_all(m, given), columns, words);
     TableAnswer { refused: 0, rows }
 }
 
@@ -156,5 +160,6 @@ pub fn table(
         return refused(15);
     }
     let nodes = node_part(sheet, h);
-    node_table(nodes, count, trace, n, m, node, p0, p1, p2, words)
+    let mut columns = columns(trace, h.signals, n);
+    node_table(nodes, count, n, m, node, [p0, p1, p2], &mut columns, words)
 }

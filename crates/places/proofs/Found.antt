@@ -13,15 +13,15 @@ use borrow.Author.Tests.{leb-true, leb-false, le-leb, ltb-true, lt-ltb, eqb-true
 use Rattle.semantics.specs.Cycles.{someBelow, someFrom, someIn}
 use Rattle.semantics.specs.Proposition.{bit}
 use Rattle.semantics.specs.Clause.{Kind, pref, init, anti, implies, follows, triggers}
-use Rattle.semantics.proofs.Tests.{same, test, is-false, false-not, and-left, and-right, and-intro, and-comm, and-false, and-false-left, and-true-right, not-intro, not-elim}
+use Rattle.semantics.proofs.Tests.{same, test, is-false, false-not, and-left, and-right, and-intro, and-comm, and-false, and-false-left, and-false-right, and-true-right, not-intro, not-elim}
 use Rattle.semantics.proofs.Cycles.{below-intro, below-elim, below-cong, some-elim}
 use Rattle.rows.specs.Row.{word, row, always}
 use Rattle.rows.proofs.Bits.{bit-and, bit-not, bit-above, bit-nothing}
 use Rattle.rows.proofs.Rows.{word-small, word-bit, is-word-in, is-word, masked-row}
 use Rattle.rows.proofs.Masks.{cut-bit, none-lower}
 use Rattle.rows.proofs.Cuts.{before-bit}
-use Rattle.places.specs.Search.{missed}
-use Rattle.places.specs.Rows.{starting, unmet, ending, Next}
+use Rattle.places.specs.Search.{premised, missed}
+use Rattle.places.specs.Rows.{starting, ending, unreplied, Next}
 
 abbrev cut : ℕ → ℕ → ℕ
 cut set b = bitAnd set (2 ^ 64 - 1 - word 64 (λ e. ltb e b))
@@ -78,14 +78,33 @@ cut-some answers s e l =
     below-cong e (bit (cut answers s)) (λ i. leb s i && bit answers i)
     (λ i h. cut-bit 64 answers s i (omega arith) ∙ and-comm (bit answers i) (leb s i))
 
-pub unmet-is : (n third answers s : ℕ) → n ≤ 64
-    → bitAnd (row n always s) (bitAnd third (word 64 (λ e. not (someBelow (suc e) (bit (cut answers s)))))) ≡ word n (unmet s (bit third) (bit answers))
-unfolding row unmet
-unmet-is n third answers s l =
-    masked-row n (bitAnd third (word 64 (λ e. not (someBelow (suc e) (bit (cut answers s)))))) (λ s k. bit third k && not (someIn s k (bit answers))) s
-    (λ e a b. bit-and third (word 64 (λ e. not (someBelow (suc e) (bit (cut answers s))))) e
-    ∙ ap (λ (r : Bool). bit third e && r)
-    (before-bit (cut answers s) e (omega arith) ∙ ap not (cut-some answers s (suc e) (omega arith))))
+-- none at all, where what is left up to k is nothing
+pub none-is : (set s k : ℕ) → set < 2 ^ 64 → k < 64 → eqb (bitAnd (cut set s) (word 64 (λ e. leb e k))) 0 ≡ not (someIn s k (bit set))
+none-is set s k small h = ap (λ (x : ℕ). eqb x 0) left ∙ nothing ∙ ap not (cut-some set s (suc k) h)
+  where
+    upto : (e : ℕ) → leb e k ≡ ltb e (suc k)
+    upto e =
+        same (leb e k) (ltb e (suc k)) (λ q. let l = leb-true e k q in lt-ltb e (suc k) (omega arith))
+        (λ q. let l = ltb-true e (suc k) q in le-leb e k (omega arith))
+
+    left : bitAnd (cut set s) (word 64 (λ e. leb e k)) ≡ word (suc k) (bit (cut set s))
+    left =
+        is-word-in 64 (suc k) (bitAnd (cut set s) (word 64 (λ e. leb e k))) (bit (cut set s)) h
+        (lt-of-le-of-lt (and-le-l (cut set s) (word 64 (λ e. leb e k))) (cut-small set s small))
+        (λ e l. bit-and (cut set s) (word 64 (λ e. leb e k)) e ∙ ap (λ (r : Bool). bit (cut set s) e && r) (word-bit 64 (λ e. leb e k) e l ∙ upto e)
+        ∙ and-comm (bit (cut set s) e) (ltb e (suc k)))
+
+    nothing : eqb (word (suc k) (bit (cut set s))) 0 ≡ not (someBelow (suc k) (bit (cut set s)))
+    nothing =
+        same (eqb (word (suc k) (bit (cut set s))) 0) (not (someBelow (suc k) (bit (cut set s))))
+        (λ q. not-intro (someBelow (suc k) (bit (cut set s))) (λ w.
+        let v = below-elim (suc k) (bit (cut set s)) w in
+        false-not (bit (cut set s) (v .at))
+        (sym (word-bit (suc k) (bit (cut set s)) (v .at) (v .high)) ∙ ap (λ (x : ℕ). bit x (v .at)) (eqb-true (word (suc k) (bit (cut set s))) 0 q) ∙ bit-nothing (v .at))
+        (v .ok)))
+        (λ q. eq-eqb (word (suc k) (bit (cut set s))) 0
+        (sym (is-word (suc k) 0 (bit (cut set s)) (pow-pos (suc k))
+        (λ e l. bit-nothing e ∙ sym (is-false (bit (cut set s) e) (λ w. not-elim (someBelow (suc k) (bit (cut set s))) q (below-intro (suc k) (bit (cut set s)) e l w)))))))
 
 -- a word cut to n cycles
 limited : (n x : ℕ) (p : ℕ → Bool) → n ≤ 64 → ((e : ℕ) → e < n → bit x e ≡ p e) → bitAnd (word 64 (λ e. ltb e n)) x ≡ word n p
@@ -100,6 +119,11 @@ limited n x p l f =
 
 no-starts : (n : ℕ) (p : ℕ → Bool) → ((e : ℕ) → p e ≡ false) → 0 ≡ word n p
 no-starts n p f = is-word n 0 p (pow-pos n) (λ e h. bit-nothing e ∙ sym (f e))
+
+-- a row from i on: what anti, follows and triggers start from, and where Ξ of D3 ends
+pub first-starts : (n i first : ℕ) → bitAnd (row n always i) first ≡ word n (λ j. leb i j && bit first j)
+unfolding row
+first-starts n i first = masked-row n first (λ i j. bit first j) i (λ e a b. refl)
 
 module _ (n i first answers : ℕ) (l : n ≤ 64) (h : answers < 2 ^ 64) where
   pub pref-starts : i ≡ 0 → bitAnd (word 64 (λ e. ltb e n)) (2 ^ 64 - 1 - answers) ≡ word n (starting pref i (bit first) (bit answers))
@@ -129,11 +153,6 @@ module _ (n i first answers : ℕ) (l : n ≤ 64) (h : answers < 2 ^ 64) where
       no-starts n (λ j. eqb i 0 && (bit first j && not (someIn 0 j (bit answers))))
       (λ e. ap (λ (r : Bool). r && (bit first e && not (someIn 0 e (bit answers)))) (ne-eqb i 0 z))
 
-  -- anti, follows and triggers alike
-  pub first-starts : bitAnd (row n always i) first ≡ word n (λ j. leb i j && bit first j)
-  unfolding row
-  first-starts = masked-row n first (λ i j. bit first j) i (λ e a b. refl)
-
   pub implies-starts : bitAnd (row n always i) (bitAnd first (2 ^ 64 - 1 - answers)) ≡ word n (starting implies i (bit first) (bit answers))
   unfolding row starting
   implies-starts =
@@ -152,31 +171,50 @@ turned : (a b c : Bool) → a && b && c ≡ (a && c && b)
 turned true b c = and-comm b c
 turned false b c = refl
 
-turned-in : (a b c d : Bool) → a && b && (c && d) ≡ (a && c && (b && d))
-turned-in true true c d = refl
-turned-in true false c d = sym (and-false c)
-turned-in false b c d = refl
+turned-in : (a b c d e : Bool) → a && b && (c && (d && e)) ≡ (a && c && ((b && d) && e))
+turned-in true true c d e = refl
+turned-in true false c d e = sym (and-false c)
+turned-in false b c d e = refl
+
+no-premise : (a b c d : Bool) → (a ≡ true → c ≡ false) → a && b && (c && d) ≡ false
+no-premise true b c d f = and-false-right b (c && d) (and-false-left c d (f refl))
+no-premise false b c d f = refl
 
 pub missed-is : (κ : Kind) (first third answers : ℕ → ℕ → Bool) (i j k : ℕ)
-    → missed κ first third answers i j k ≡ (starting κ i (first i) (answers i) j && ending κ i j third answers k)
-unfolding missed starting ending unmet
+    → missed κ first third answers i j k ≡ (starting κ i (first i) (answers i) j && (ending κ i j third k && unreplied κ i j answers k))
+unfolding missed starting ending unreplied
 missed-is pref first third answers i j k = go (eqb i 0) refl
   where
-    go : (z : Bool) → eqb i 0 ≡ z → z && eqb k j && not (answers 0 j) ≡ (z && not (answers i j) && eqb k j)
-    go true q = rw (eqb-true i 0 q) (and-comm (eqb k j) (not (answers 0 j)))
+    go : (z : Bool) → eqb i 0 ≡ z → z && eqb k j && not (answers 0 j) ≡ (z && not (answers i j) && (eqb k j && true))
+    go true q = rw (eqb-true i 0 q, and-true-right (eqb k j)) (and-comm (eqb k j) (not (answers 0 j)))
     go false q = refl
 missed-is init first third answers i j k = go (eqb i 0) refl
   where
     go : (z : Bool) → eqb i 0 ≡ z
-        → z && eqb k j && (first 0 j && not (someIn 0 j (answers 0))) ≡ (z && (first i j && not (someIn 0 j (answers i))) && eqb k j)
-    go true q = rw (eqb-true i 0 q) (and-comm (eqb k j) (first 0 j && not (someIn 0 j (answers 0))))
+        → z && eqb k j && (first 0 j && not (someIn 0 j (answers 0))) ≡ (z && (first i j && not (someIn 0 j (answers i))) && (eqb k j && true))
+    go true q = rw (eqb-true i 0 q, and-true-right (eqb k j)) (and-comm (eqb k j) (first 0 j && not (someIn 0 j (answers 0))))
     go false q = refl
-missed-is anti first third answers i j k = turned (leb i j) (eqb k j) (first i j)
-missed-is implies first third answers i j k = turned (leb i j) (eqb k j) (first i j && not (answers i j))
-missed-is follows first third answers i j k =
-    turned-in (leb i j) (leb j k) (first i j) (third j k && not (someIn j k (answers j)))
-missed-is triggers first third answers i j k =
-    turned-in (leb i j) (leb i k) (first i j) (third i k && not (someIn i k (answers i)))
+missed-is anti first third answers i j k = rw (and-true-right (eqb k j)) (turned (leb i j) (eqb k j) (first i j))
+missed-is implies first third answers i j k = rw (and-true-right (eqb k j)) (turned (leb i j) (eqb k j) (first i j && not (answers i j)))
+missed-is follows first third answers i j k = turned-in (leb i j) (leb j k) (first i j) (third j k) (not (someIn j k (answers j)))
+missed-is triggers first third answers i j k = turned-in (leb i j) (leb i k) (first i j) (third i k) (not (someIn i k (answers i)))
+
+-- ---- without any interval of the premise, none is open
+pub missed-premise : (κ : Kind) (first third answers : ℕ → ℕ → Bool) (n i j k : ℕ) → premised κ ≡ true → j < n
+    → ((b e : ℕ) → b ≤ e → e < n → first b e ≡ false) → missed κ first third answers i j k ≡ false
+unfolding premised missed
+missed-premise pref first third answers n i j k p h f = absurd (false≢true p)
+missed-premise init first third answers n i j k p h f =
+    and-false-right (eqb i 0 && eqb k j) (first 0 j && not (someIn 0 j (answers 0))) (and-false-left (first 0 j) _ (f 0 j (omega arith) h))
+missed-premise anti first third answers n i j k p h f =
+    ap (λ (r : Bool). leb i j && eqb k j && r) (sym (and-true-right (first i j)))
+    ∙ no-premise (leb i j) (eqb k j) (first i j) true (λ q. f i j (leb-true i j q) h)
+missed-premise implies first third answers n i j k p h f =
+    no-premise (leb i j) (eqb k j) (first i j) (not (answers i j)) (λ q. f i j (leb-true i j q) h)
+missed-premise follows first third answers n i j k p h f =
+    no-premise (leb i j) (leb j k) (first i j) (third j k && not (someIn j k (answers j))) (λ q. f i j (leb-true i j q) h)
+missed-premise triggers first third answers n i j k p h f =
+    no-premise (leb i j) (leb i k) (first i j) (third i k && not (someIn i k (answers i))) (λ q. f i j (leb-true i j q) h)
 
 -- ---- where no interval is open without any answer, none is with some
 unmoved : (a c m : Bool) → a && (c && true) ≡ false → a && (c && m) ≡ false

@@ -5,22 +5,22 @@ use native.Mathlib.Nat.{eq-or-lt-of-le}
 use mathlib.Core.Logic.{inl, inr}
 use mathlib.Core.Bool.{Bool, true, false, not, cond, _&&_, _||_}
 use mathlib.Core.List.{List}
-use mathlib.Core.Path.{_≡_, refl, sym, ap, ap₂, _∙_}
+use mathlib.Core.Path.{_≡_, refl, sym, ap, ap₂, subst, _∙_}
 use lib.Bits.{bitAnd, bitOr}
 use lib.Dec.{leb, ltb}
 use lib.ListN.{length, getD, set, length-set}
 use lib.Seq.{getD-set-same, getD-set-other}
 use borrow.Author.Tests.{leb-true, leb-false, le-leb, lt-leb}
 use Rattle.semantics.specs.Proposition.{bit}
-use Rattle.semantics.specs.Placement.{Names}
-use Rattle.semantics.proofs.Tests.{same, test, and-left, and-right, and-intro, and-comm, and-false, and-false-right, or-false}
+use Rattle.semantics.specs.Placement.{Names, Placement}
+use Rattle.semantics.proofs.Tests.{same, test, false-not, and-left, and-right, and-intro, and-comm, and-false, and-false-right, or-left, or-right, or-false}
 use Rattle.rows.specs.Row.{word}
 use Rattle.rows.proofs.Bits.{bit-or}
 use Rattle.rows.proofs.Masks.{cut-bit}
-use Rattle.tables.specs.Table.{standing, rowAt}
+use Rattle.tables.specs.Table.{rowAt}
 use Rattle.places.specs.Search.{insideName, inside}
 use Rattle.places.specs.Rows.{testOf}
-use Rattle.places.specs.Gather.{firstName, lastName, cutTo, gathered, Adds}
+use Rattle.places.specs.Gather.{firstName, lastName, cutTo, gathered, Adds, Ends}
 
 -- ---- names inside an interval, by the first and the last of them
 min-test : (b x y : ℕ) → leb b (min x y) ≡ (leb b x && leb b y)
@@ -59,10 +59,12 @@ regroup true b0 true b1 false b2 = and-false-right b0 (b1 && false) (and-false b
 regroup true b0 false b1 a2 b2 = and-false b0
 regroup false b0 a1 b1 a2 b2 = refl
 
-pub names-inside : (names : Names) (p0 p1 p2 b e : ℕ) → b < 64
-    → inside names b e (standing p0 p1 p2) ≡ (leb b (firstName names p0 p1 p2) && leb (lastName names p0 p1 p2) e)
-unfolding inside insideName standing firstName lastName
-names-inside names p0 p1 p2 b e h =
+pub names-inside : (names : Names) (ν : Placement) (b e : ℕ) → b < 64 → inside names b e ν ≡ (leb b (firstName names ν) && leb (lastName names ν) e)
+unfolding inside insideName firstName lastName
+names-inside names ν b e h =
+    let p0 : ℕ = ν 0 in
+    let p1 : ℕ = ν 1 in
+    let p2 : ℕ = ν 2 in
     let c0 : ℕ = cond (names 0) p0 63 in
     let c1 : ℕ = cond (names 1) p1 63 in
     let c2 : ℕ = cond (names 2) p2 63 in
@@ -84,84 +86,106 @@ names-inside names p0 p1 p2 b e h =
     ∙ regroup (not (names 0) || leb b p0) (not (names 0) || leb p0 e) (not (names 1) || leb b p1) (not (names 1) || leb p1 e) (not (names 2) || leb b p2) (not (names 2) || leb p2 e)
     ∙ sym (ap₂ (λ (x y : Bool). x && y) first last)
 
-pub first-most : (names : Names) (p0 p1 p2 : ℕ) → firstName names p0 p1 p2 < 64
+pub first-most : (names : Names) (ν : Placement) → firstName names ν < 64
 unfolding firstName
-first-most names p0 p1 p2 =
-    let c0 : ℕ = cond (names 0) p0 63 in
-    let c1 : ℕ = cond (names 1) p1 63 in
-    let c2 : ℕ = cond (names 2) p2 63 in
+first-most names ν =
+    let c0 : ℕ = cond (names 0) (ν 0) 63 in
+    let c1 : ℕ = cond (names 1) (ν 1) 63 in
+    let c2 : ℕ = cond (names 2) (ν 2) 63 in
     most c0 c1 c2
   where
     most : (x y z : ℕ) → min (min x y) (min z 63) < 64
     most x y z = omega arith
 
--- the row that is added at b
-abbrev pub addedRow : List ℕ → ℕ → ℕ → Bool → ℕ → ℕ → ℕ → ℕ → ℕ
-addedRow words root names short p0 p1 p2 b =
-    bitAnd (cutTo short (rowAt words root b)) (2 ^ 64 - 1 - word 64 (λ e. ltb e (lastName (bit names) p0 p1 p2)))
+-- row b, cut if asked, with some ends alone
+abbrev pub cutRow : List ℕ → ℕ → Bool → ℕ → ℕ → ℕ
+cutRow words root short ends b = bitAnd (cutTo short (rowAt words root b)) ends
 
-added-bit : (words : List ℕ) (root names : ℕ) (short : Bool) (p0 p1 p2 b e : ℕ) → b ≤ firstName (bit names) p0 p1 p2 → b < 64 → e < 64
-    → bit (addedRow words root names short p0 p1 p2 b) e ≡ gathered words root names short p0 p1 p2 b e
-unfolding gathered
-added-bit words root names short p0 p1 p2 b e l h m =
-    cut-bit 64 (cutTo short (rowAt words root b)) (lastName (bit names) p0 p1 p2) e m
-    ∙ and-comm (bit (cutTo short (rowAt words root b)) e) (leb (lastName (bit names) p0 p1 p2) e)
-    ∙ ap (λ (x : Bool). (x && leb (lastName (bit names) p0 p1 p2) e) && bit (cutTo short (rowAt words root b)) e)
-    (sym (le-leb b (firstName (bit names) p0 p1 p2) l))
-    ∙ ap (λ (x : Bool). x && bit (cutTo short (rowAt words root b)) e) (sym (names-inside (bit names) p0 p1 p2 b e h))
+-- what is gathered from row b
+module _ (words : List ℕ) (root names : ℕ) (short : Bool) (ν : Placement) where
+  addedRow : ℕ → ℕ
+  addedRow = cutRow words root short (2 ^ 64 - 1 - word 64 (λ e. ltb e (lastName (bit names) ν)))
 
--- no interval from a later row holds the first name
-none-later : (words : List ℕ) (root names : ℕ) (short : Bool) (p0 p1 p2 b e : ℕ) → firstName (bit names) p0 p1 p2 < b → b < 64
-    → gathered words root names short p0 p1 p2 b e ≡ false
-unfolding gathered
-none-later words root names short p0 p1 p2 b e l h =
-    ap (λ (x : Bool). x && bit (cutTo short (rowAt words root b)) e)
-    (names-inside (bit names) p0 p1 p2 b e h
-    ∙ ap (λ (x : Bool). x && leb (lastName (bit names) p0 p1 p2) e) (lt-leb b (firstName (bit names) p0 p1 p2) l))
+  added-bit : (b e : ℕ) → b ≤ firstName (bit names) ν → b < 64 → e < 64 → bit (addedRow b) e ≡ gathered words root names short ν b e
+  unfolding gathered addedRow
+  added-bit b e l h m =
+      cut-bit 64 (cutTo short (rowAt words root b)) (lastName (bit names) ν) e m
+      ∙ and-comm (bit (cutTo short (rowAt words root b)) e) (leb (lastName (bit names) ν) e)
+      ∙ ap (λ (x : Bool). (x && leb (lastName (bit names) ν) e) && bit (cutTo short (rowAt words root b)) e) (sym (le-leb b (firstName (bit names) ν) l))
+      ∙ ap (λ (x : Bool). x && bit (cutTo short (rowAt words root b)) e) (sym (names-inside (bit names) ν b e h))
 
--- the rows below b have been added to, the others not yet
-pub record Added (before after : List ℕ) (f : ℕ → ℕ) (b : ℕ) : Type 0 where
+  -- no interval from a later row holds the first name
+  none-later : (b e : ℕ) → firstName (bit names) ν < b → b < 64 → gathered words root names short ν b e ≡ false
+  unfolding gathered
+  none-later b e l h =
+      ap (λ (x : Bool). x && bit (cutTo short (rowAt words root b)) e)
+      (names-inside (bit names) ν b e h ∙ ap (λ (x : Bool). x && leb (lastName (bit names) ν) e) (lt-leb b (firstName (bit names) ν) l))
+
+-- the rows below b have been added to, the others not yet; `all` has the ends of what was added
+pub record Added (before after : List ℕ) (f : ℕ → ℕ) (all b : ℕ) : Type 0 where
   pub long : length after ≡ 64
   pub done : (i : ℕ) → i < b → getD after i 0 ≡ bitOr (getD before i 0) (f i)
   pub rest : (i : ℕ) → b ≤ i → getD after i 0 ≡ getD before i 0
+  pub ends : (i e : ℕ) → i < b → bit (f i) e ≡ true → bit all e ≡ true
 
-pub added-none : (before : List ℕ) (f : ℕ → ℕ) → length before ≡ 64 → Added before before f 0
-added-none before f h = record { long = h; done = λ i l. absurd (omega arith); rest = λ i l. refl }
+pub added-none : (before : List ℕ) (f : ℕ → ℕ) → length before ≡ 64 → Added before before f 0 0
+added-none before f h = record { long = h; done = λ i l. absurd (omega arith); rest = λ i l. refl; ends = λ i e l. absurd (omega arith) }
 
-pub added-turn : (before after : List ℕ) (f : ℕ → ℕ) (b v : ℕ) → b < 64 → Added before after f b → v ≡ bitOr (getD after b 0) (f b)
-    → Added before (set after b v) f (b + 1)
-added-turn before after f b v h a e =
+pub added-turn : (before after : List ℕ) (f : ℕ → ℕ) (all b v w : ℕ) → b < 64 → Added before after f all b → w ≡ f b → v ≡ bitOr (getD after b 0) w
+    → Added before (set after b v) f (bitOr all w) (b + 1)
+added-turn before after f all b v w h a u e =
     record {
       long = length-set after b v ∙ a .long;
-      done = λ i l. done i l;
-      rest = λ i l. getD-set-other after b i v 0 (omega arith) ∙ a .rest i (omega arith);
-    }
-  where
-    done : (i : ℕ) → i < b + 1 → getD (set after b v) i 0 ≡ bitOr (getD before i 0) (f i)
-    done i l =
-        let o : i ≤ b = omega arith in
-        elim (eq-or-lt-of-le o) [
-          | inl q ↦
-              rw q (getD-set-same after b v 0 (omega (arith, a .long)) ∙ e ∙ ap (λ (x : ℕ). bitOr x (f b)) (a .rest b (omega arith)))
-          | inr k ↦ getD-set-other after b i v 0 (omega arith) ∙ a .done i k
-        ]
-
-pub added-all : (before after words : List ℕ) (root names : ℕ) (short : Bool) (p0 p1 p2 : ℕ)
-    → Added before after (addedRow words root names short p0 p1 p2) (firstName (bit names) p0 p1 p2 + 1)
-    → Adds 64 before after (gathered words root names short p0 p1 p2)
-unfolding testOf
-added-all before after words root names short p0 p1 p2 a =
-    record {
-      adds = λ b e l h. elim (test (leb b (firstName (bit names) p0 p1 p2))) [
+      done = λ i l. elim (eq-or-lt-of-le (upto i l)) [
         | inl q ↦
-            let m = leb-true b (firstName (bit names) p0 p1 p2) q in
-            ap (λ (x : ℕ). bit x e) (a .done b (omega arith))
-            ∙ bit-or (getD before b 0) (addedRow words root names short p0 p1 p2 b) e
-            ∙ ap (λ (r : Bool). bit (getD before b 0) e || r) (added-bit words root names short p0 p1 p2 b e m (omega arith) h)
-        | inr q ↦
-            let m = leb-false b (firstName (bit names) p0 p1 p2) q in
-            ap (λ (x : ℕ). bit x e) (a .rest b (omega arith))
-            ∙ sym (or-false (bit (getD before b 0) e))
-            ∙ ap (λ (r : Bool). bit (getD before b 0) e || r) (sym (none-later words root names short p0 p1 p2 b e (omega arith) (omega arith)))
+            rw q (getD-set-same after b v 0 (omega (arith, a .long)) ∙ e ∙ ap₂ bitOr (a .rest b (omega arith)) u)
+        | inr k ↦ getD-set-other after b i v 0 (omega arith) ∙ a .done i k
+      ];
+      rest = λ i l. getD-set-other after b i v 0 (omega arith) ∙ a .rest i (omega arith);
+      ends = λ i x l q. bit-or all w x ∙ elim (eq-or-lt-of-le (upto i l)) [
+        | inl s ↦ or-right (bit all x) (bit w x) (ap (λ (z : ℕ). bit z x) u ∙ subst (λ (z : ℕ). bit (f z) x ≡ true) s q)
+        | inr k ↦ or-left (bit all x) (bit w x) (a .ends i x k q)
       ];
     }
+  where
+    upto : (i : ℕ) → i < b + 1 → i ≤ b
+    upto i l = omega arith
+
+module _ (before after words : List ℕ) (root names : ℕ) (short : Bool) (ν : Placement) (n ends all high : ℕ) (few : n ≤ 64)
+    (is : ends ≡ 2 ^ 64 - 1 - word 64 (λ e. ltb e (lastName (bit names) ν))) (upto : high ≡ min (firstName (bit names) ν + 1) n)
+    (cut : Added before after (cutRow words root short ends) all high) where
+  a : Added before after (addedRow words root names short ν) all (min (firstName (bit names) ν + 1) n)
+  unfolding addedRow
+  a = subst (λ (z : ℕ). Added before after (cutRow words root short z) all (min (firstName (bit names) ν + 1) n)) is
+      (subst (λ (z : ℕ). Added before after (cutRow words root short ends) all z) upto cut)
+
+  pub added-all : Adds n before after (gathered words root names short ν)
+  unfolding testOf
+  added-all =
+      record {
+        adds = λ b e l h. elim (test (leb b (firstName (bit names) ν))) [
+          | inl q ↦
+              let m = leb-true b (firstName (bit names) ν) q in
+              ap (λ (x : ℕ). bit x e) (a .done b (omega arith))
+              ∙ bit-or (getD before b 0) (addedRow words root names short ν b) e
+              ∙ ap (λ (r : Bool). bit (getD before b 0) e || r) (added-bit words root names short ν b e m (omega arith) (omega arith))
+          | inr q ↦
+              let m = leb-false b (firstName (bit names) ν) q in
+              ap (λ (x : ℕ). bit x e) (a .rest b (omega arith))
+              ∙ sym (or-false (bit (getD before b 0) e))
+              ∙ ap (λ (r : Bool). bit (getD before b 0) e || r) (sym (none-later words root names short ν b e (omega arith) (omega arith)))
+        ];
+      }
+
+  pub added-ends : Ends n (gathered words root names short ν) all
+  added-ends =
+      record {
+        ends = λ b e l h q. elim (test (leb b (firstName (bit names) ν))) [
+          | inl p ↦
+              let m = leb-true b (firstName (bit names) ν) p in
+              a .ends b e (omega arith) (added-bit words root names short ν b e m (omega arith) (omega arith) ∙ q)
+          | inr p ↦
+              let m = leb-false b (firstName (bit names) ν) p in
+              absurd (false-not (gathered words root names short ν b e) (none-later words root names short ν b e (omega arith) (omega arith)) q)
+        ];
+      }

@@ -1,156 +1,147 @@
--- Tables that are right for other cycles, and what the gathered rows mean.
+-- Tables for other placements, and what the rows that are gathered from them mean.
 use Prim.Native.Nat.{ℕ, _-_, _≤_, _<_}
 use native.Mathlib.Omega.{arith}
 use mathlib.Core.Bool.{Bool, true, false, _&&_, _||_}
 use mathlib.Core.List.{List}
-use mathlib.Core.Path.{_≡_, refl, ap, _∙_}
-use lib.ListN.{length, getD, set, length-set, replicate, getD-replicate}
-use lib.Seq.{getD-set-same, getD-set-other}
-use Rattle.semantics.specs.Proposition.{bit}
+use mathlib.Core.Path.{_≡_, refl, sym, ap, subst, _∙_}
+use lib.ListN.{length, getD, replicate, getD-replicate}
+use Rattle.semantics.specs.Proposition.{Trace, bit}
 use Rattle.semantics.specs.Formula.{holds}
-use Rattle.semantics.specs.Placement.{marks, somePlacement}
+use Rattle.semantics.specs.Placement.{Placement, marks, somePlacement}
 use Rattle.semantics.specs.Clause.{on, shortest}
+use Rattle.semantics.proofs.Tests.{is-false, false-not}
 use Rattle.rows.specs.Row.{row, shortestOf}
 use Rattle.rows.proofs.Bits.{bit-nothing}
 use Rattle.rows.proofs.Rows.{row-at}
 use Rattle.rows.proofs.Cuts.{shortest-row}
+use Rattle.stored.specs.Columns.{IsColumns, traceOf}
 use Rattle.stored.specs.Node.{nodeAt}
 use Rattle.stored.specs.Tree.{formulaAt}
 use Rattle.stored.specs.Clause.{partOf}
-use Rattle.stored.specs.Trace.{cyclesOf}
-use Rattle.stored.proofs.Accepted.{cycles-count}
-use Rattle.tables.specs.Table.{standing, rowAt, Tables}
-use Rattle.tables.specs.Ready.{Ready}
-use Rattle.tables.proofs.Fills.{given-words, given-cycles}
+use Rattle.tables.specs.Table.{standing, Inside, rowAt, Table, Tables}
+use Rattle.tables.specs.Ready.{Ready, withNames}
+use Rattle.tables.proofs.Columns.{names-columns, names-told}
+use Rattle.tables.proofs.Fills.{ready-other}
+use Rattle.tables.proofs.Moves.{table-placed}
 use Rattle.places.specs.declared.task.Task.{Task}
-use Rattle.places.specs.Search.{inside, onInside, shortInside, answered, missed}
-use Rattle.places.specs.Places.{places, numbered, IsLeast}
+use Rattle.places.specs.Search.{inside, onInside, shortInside, answered, premised, missed}
+use Rattle.places.specs.Places.{numbered, IsLeast}
 use Rattle.places.specs.Rows.{kindOf, testOf}
-use Rattle.places.specs.Gather.{cutTo, gathered, Adds}
+use Rattle.places.specs.Gather.{cutTo, gathered, Adds, Ends}
 use Rattle.places.specs.Task.{missedTask}
-use Rattle.places.specs.Laid.{Laid, IsFormula, Formulas, replyOn, missedOn, over0, over1, over2}
-use Rattle.places.proofs.Found.{missed-fewer}
+use Rattle.places.specs.Laid.{Laid, IsFormula, Formulas, replyOn, missedOn, overLast}
+use Rattle.places.proofs.Found.{missed-fewer, missed-premise}
 use Rattle.places.proofs.Loops.{missed-least}
-use Rattle.places.proofs.Places.{least-fewer, numbered-fewer}
+use Rattle.places.proofs.Places.{least-stay, numbered-fewer, numbered-false}
 
-ready-at : {nodes trace reach words words′ : List ℕ} {count n s0 s1 s2 p0 p1 p2 : ℕ} → Ready nodes count trace n reach s0 s1 s2 words
-    → p0 < n → p1 < n → p2 < n → length words′ ≡ length words → Ready nodes count trace n reach p0 p1 p2 words′
-ready-at {words′ = words′} {p0 = p0} {p1 = p1} {p2 = p2} r h0 h1 h2 l =
-    record { given = given-words words′ l (given-cycles p0 p1 p2 h0 h1 h2 (r .given)); reached = r .reached }
-
-module _ {nodes trace reach : List ℕ} {count n : ℕ} where
-  pub laid-ready : {stood words : List ℕ} {p0 p1 p2 : ℕ} → Laid nodes count trace n reach stood words → p0 < n → p1 < n → p2 < n
-      → Ready nodes count trace n reach p0 p1 p2 words
-  laid-ready l h0 h1 h2 = ready-at (l .ready) h0 h1 h2 refl
-
-  pub laid-again : {stood stood′ words words′ : List ℕ} {p0 p1 p2 : ℕ} → Laid nodes count trace n reach stood words → p0 < n → p1 < n → p2 < n
-      → stood′ ≡ set (set (set stood 0 p0) 1 p1) 2 p2 → Tables (nodeAt nodes) count (cyclesOf trace) (standing p0 p1 p2) words′
-      → length words′ ≡ length words → Laid nodes count trace n reach stood′ words′
-  laid-again {stood} {stood′} {words} {words′} {p0} {p1} {p2} l h0 h1 h2 e t same =
-      let long = l .three in
-      let e0 : getD stood′ 0 0 ≡ p0 =
-      ap (λ (s : List ℕ). getD s 0 0) e ∙ getD-set-other (set (set stood 0 p0) 1 p1) 2 0 p2 0 (omega arith)
-      ∙ getD-set-other (set stood 0 p0) 1 0 p1 0 (omega arith) ∙ getD-set-same stood 0 p0 0 (omega arith) in
-      let e1 : getD stood′ 1 0 ≡ p1 =
-      ap (λ (s : List ℕ). getD s 1 0) e ∙ getD-set-other (set (set stood 0 p0) 1 p1) 2 1 p2 0 (omega arith)
-      ∙ getD-set-same (set stood 0 p0) 1 p1 0 (omega (arith, length-set stood 0 p0)) in
-      let e2 : getD stood′ 2 0 ≡ p2 =
-      ap (λ (s : List ℕ). getD s 2 0) e
-      ∙ getD-set-same (set (set stood 0 p0) 1 p1) 2 p2 0 (omega (arith, length-set stood 0 p0, length-set (set stood 0 p0) 1 p1)) in
-      let long′ : length stood′ ≡ length stood =
-      ap length e ∙ length-set (set (set stood 0 p0) 1 p1) 2 p2 ∙ length-set (set stood 0 p0) 1 p1 ∙ length-set stood 0 p0 in
+-- ---- names laid on other cycles
+module _ {nodes reach : List ℕ} {count n : ℕ} {σ : Trace} where
+  pub laid-again : {columns columns′ words words′ : List ℕ} (cycles : List ℕ) → Laid nodes count n reach σ columns words → Inside n cycles
+      → columns′ ≡ withNames columns cycles → Tables (nodeAt nodes) count n columns′ words′ → length words′ ≡ length words → Laid nodes count n reach σ columns′ words′
+  laid-again {columns} {columns′} {words} {words′} cycles l i e t same =
+      let c = l .ready .given .columned in
       record {
-        three = omega arith;
-        ready = rw (e0, e1, e2) (ready-at (l .ready) h0 h1 h2 same);
-        tables = rw (e0, e1, e2) t;
+        ready = rw e (ready-other (withNames columns cycles) words′ (names-columns cycles (l .ready .given .few-cycles) i c) same (l .ready));
+        tables = t;
+        told = rw e (names-told columns cycles (c .all) n ∙ l .told);
       }
 
-  cycle-count : {stood words : List ℕ} → Laid nodes count trace n reach stood words → length (cyclesOf trace) ≡ n
-  cycle-count l = cycles-count trace ∙ l .ready .given .cycles
+  -- the tables are then those of the placement
+  pub laid-placed : {columns columns′ words words′ : List ℕ} (cycles : List ℕ) → Laid nodes count n reach σ columns words → Inside n cycles
+      → columns′ ≡ withNames columns cycles → Tables (nodeAt nodes) count n columns′ words′ → length words′ ≡ length words
+      → (i : ℕ) → i < count → Table (nodeAt nodes) σ (marks (standing cycles)) n words′ i
+  laid-placed {columns} {columns′} {words} {words′} cycles l i e t same k h =
+      let c = l .ready .given .columned in
+      let r = ready-other (withNames columns cycles) words′ (names-columns cycles (l .ready .given .few-cycles) i c) same (l .ready) in
+      subst (λ (τ : Trace). Table (nodeAt nodes) τ (marks (standing cycles)) n words′ k) (l .told)
+      (table-placed columns cycles r (c .all) (subst (λ (m : List ℕ). Tables (nodeAt nodes) count n m words′) e t) k h)
 
-  module _ {stood words : List ℕ} {root : ℕ} (names p0 p1 p2 : ℕ) (l : Laid nodes count trace n reach stood words) (f : IsFormula nodes count root)
-      (t : Tables (nodeAt nodes) count (cyclesOf trace) (standing p0 p1 p2) words) where
-    row-of : (b : ℕ) → b < 64 → rowAt words root b ≡ row (length (cyclesOf trace)) (holds (formulaAt (nodeAt nodes) root) (cyclesOf trace) (marks (standing p0 p1 p2))) b
-    row-of b h = t .table root (f .below) .rows (f .sort) b h
+-- ---- the intervals of a part with its names inside, and the shortest of them
+module _ {nodes words : List ℕ} {count n : ℕ} {σ : Trace} (ν : Placement) (few : n ≤ 64)
+    (placed : (i : ℕ) → i < count → Table (nodeAt nodes) σ (marks ν) n words i) where
+  module _ {root : ℕ} (names : ℕ) (f : IsFormula nodes count root) where
+    row-of : (b : ℕ) → b < n → rowAt words root b ≡ row n (holds (formulaAt (nodeAt nodes) root) σ (marks ν)) b
+    row-of b h = placed root (f .below) .rows (f .sort) b h
 
-    -- the intervals of a part with its names inside, and the shortest of them
-    pub gathered-on : (b e : ℕ) → b ≤ e → e < n → gathered words root names false p0 p1 p2 b e ≡ onInside (partOf (nodeAt nodes) root names) (cyclesOf trace) (standing p0 p1 p2) b e
+    pub gathered-on : (b e : ℕ) → b ≤ e → e < n → gathered words root names false ν b e ≡ onInside (partOf (nodeAt nodes) root names) σ ν b e
     unfolding gathered cutTo onInside on partOf
     gathered-on b e o h =
-        let few = l .ready .given .few-cycles in
-        ap (λ (r : Bool). inside (bit names) b e (standing p0 p1 p2) && r)
-        (ap (λ (x : ℕ). bit x e) (row-of b (omega arith))
-        ∙ row-at (length (cyclesOf trace)) (holds (formulaAt (nodeAt nodes) root) (cyclesOf trace) (marks (standing p0 p1 p2))) b e o (omega (arith, cycle-count l)))
+        ap (λ (r : Bool). inside (bit names) b e ν && r)
+        (ap (λ (x : ℕ). bit x e) (row-of b (omega arith)) ∙ row-at n (holds (formulaAt (nodeAt nodes) root) σ (marks ν)) b e o h)
 
-    pub gathered-short : (b e : ℕ) → b ≤ e → e < n → gathered words root names true p0 p1 p2 b e ≡ shortInside (partOf (nodeAt nodes) root names) (cyclesOf trace) (standing p0 p1 p2) b e
+    pub gathered-short : (b e : ℕ) → b ≤ e → e < n → gathered words root names true ν b e ≡ shortInside (partOf (nodeAt nodes) root names) σ ν b e
     unfolding gathered cutTo shortInside shortest on partOf
     gathered-short b e o h =
-        let few = l .ready .given .few-cycles in
-        ap (λ (r : Bool). inside (bit names) b e (standing p0 p1 p2) && r)
+        ap (λ (r : Bool). inside (bit names) b e ν && r)
         (ap (λ (x : ℕ). bit (shortestOf x) e) (row-of b (omega arith))
-        ∙ ap (λ (x : ℕ). bit x e)
-        (shortest-row (length (cyclesOf trace)) (holds (formulaAt (nodeAt nodes) root) (cyclesOf trace) (marks (standing p0 p1 p2))) b (omega (arith, cycle-count l)))
-        ∙ row-at (length (cyclesOf trace)) _ b e o (omega (arith, cycle-count l)))
+        ∙ ap (λ (x : ℕ). bit x e) (shortest-row n (holds (formulaAt (nodeAt nodes) root) σ (marks ν)) b few)
+        ∙ row-at n _ b e o h)
 
--- rows that started empty
-fresh : (n : ℕ) (after : List ℕ) (q : ℕ → ℕ → Bool) → n ≤ 64 → Adds n (replicate 64 0) after q → (b e : ℕ) → b ≤ e → e < n → testOf after b e ≡ q b e
-unfolding testOf
-fresh n after q few a b e o h =
-    a .adds b e o h
-    ∙ ap (λ (x : ℕ). bit x e || q b e) (getD-replicate 64 b 0 0 (omega arith))
-    ∙ ap (λ (x : Bool). x || q b e) (bit-nothing e)
+  -- the answers of one placement
+  pub replies-added : (task : Task) (rows rows′ : List ℕ) → Formulas nodes count task → Adds n rows rows′ (gathered words (task .reply) (task .replies) false ν)
+      → Adds n rows rows′ (λ b e. replyOn nodes σ task b e ν)
+  unfolding replyOn
+  replies-added task rows rows′ f a =
+      record { adds = λ b e l h. a .adds b e l h ∙ ap (λ (r : Bool). testOf rows b e || r) (gathered-on (task .replies) (f .reply) b e l h) }
 
--- what the search finds in the three arrays that were gathered for one placement
-pub place-least : {nodes trace reach stood words : List ℕ} {count n p0 p1 p2 : ℕ} (task : Task) (first third answers : List ℕ) (r : ℕ)
-    → Laid nodes count trace n reach stood words → p0 < n → p1 < n → p2 < n → Formulas nodes count task
-    → Tables (nodeAt nodes) count (cyclesOf trace) (standing p0 p1 p2) words
-    → Adds 64 (replicate 64 0) first (gathered words (task .premise) (task .premises) false p0 p1 p2)
-    → Adds 64 (replicate 64 0) third (gathered words (task .third) (task .thirds) true p0 p1 p2)
-    → Adds n (replicate 64 0) answers (λ b e. over0 (task .rest) n (standing p0 p1 p2) (replyOn nodes trace (task .reply) (task .replies) b e))
-    → IsLeast (numbered n (missed (kindOf (task .kind)) (testOf first) (testOf third) (testOf answers))) r
-    → IsLeast (λ y. missedOn nodes trace n task y (standing p0 p1 p2)) r
-unfolding missedOn missedTask answered replyOn over0 over1 over2 somePlacement
-place-least {nodes} {trace} {reach} {stood} {words} {count} {n} {p0} {p1} {p2} task first third answers r l h0 h1 h2 f t a₁ a₃ a₂ least =
-    let few = l .ready .given .few-cycles in
-    missed-least n (testOf first) (onInside (partOf (nodeAt nodes) (task .premise) (task .premises)) (cyclesOf trace) (standing p0 p1 p2))
-    (testOf third) (shortInside (partOf (nodeAt nodes) (task .third) (task .thirds)) (cyclesOf trace) (standing p0 p1 p2))
-    (testOf answers) (answered (bit (task .rest)) (partOf (nodeAt nodes) (task .reply) (task .replies)) (cyclesOf trace) (n - 1) (standing p0 p1 p2))
-    (λ b e o h. fresh 64 first (gathered words (task .premise) (task .premises) false p0 p1 p2) (omega arith) a₁ b e o (omega arith)
-    ∙ gathered-on (task .premises) p0 p1 p2 l (f .premise) t b e o h)
-    (λ b e o h. fresh 64 third (gathered words (task .third) (task .thirds) true p0 p1 p2) (omega arith) a₃ b e o (omega arith)
-    ∙ gathered-short (task .thirds) p0 p1 p2 l (f .third) t b e o h)
-    (λ b e o h. fresh n answers (λ b e. over0 (task .rest) n (standing p0 p1 p2) (replyOn nodes trace (task .reply) (task .replies) b e)) few a₂ b e o h)
-    (kindOf (task .kind)) r least
+  -- ---- what the search finds in the arrays that were gathered for one placement
+  module _ (task : Task) (f : Formulas nodes count task) (best : ℕ) where
+    premises : ℕ → ℕ → Bool
+    premises = onInside (partOf (nodeAt nodes) (task .premise) (task .premises)) σ ν
 
--- the same where the search finds nothing without any answer
-pub place-none : {nodes trace reach stood words : List ℕ} {count n p0 p1 p2 : ℕ} (task : Task) (first third : List ℕ) (r : ℕ)
-    → Laid nodes count trace n reach stood words → p0 < n → p1 < n → p2 < n → Formulas nodes count task
-    → Tables (nodeAt nodes) count (cyclesOf trace) (standing p0 p1 p2) words
-    → Adds 64 (replicate 64 0) first (gathered words (task .premise) (task .premises) false p0 p1 p2)
-    → Adds 64 (replicate 64 0) third (gathered words (task .third) (task .thirds) true p0 p1 p2)
-    → IsLeast (numbered n (missed (kindOf (task .kind)) (testOf first) (testOf third) (testOf (replicate 64 0)))) r → r ≡ places
-    → IsLeast (λ y. missedOn nodes trace n task y (standing p0 p1 p2)) places
-unfolding missedOn missedTask testOf
-place-none {nodes} {trace} {reach} {stood} {words} {count} {n} {p0} {p1} {p2} task first third r l h0 h1 h2 f t a₁ a₃ least e =
-    let few = l .ready .given .few-cycles in
-    let d₁ = onInside (partOf (nodeAt nodes) (task .premise) (task .premises)) (cyclesOf trace) (standing p0 p1 p2) in
-    let d₃ = shortInside (partOf (nodeAt nodes) (task .third) (task .thirds)) (cyclesOf trace) (standing p0 p1 p2) in
-    let a = answered (bit (task .rest)) (partOf (nodeAt nodes) (task .reply) (task .replies)) (cyclesOf trace) (n - 1) (standing p0 p1 p2) in
-    least-fewer
-    (numbered-fewer n (missed (kindOf (task .kind)) d₁ d₃ (λ b e. false)) (missed (kindOf (task .kind)) d₁ d₃ a)
-    (λ i j k. missed-fewer (kindOf (task .kind)) d₁ d₃ a i j k))
-    (missed-least n (testOf first) d₁ (testOf third) d₃ (testOf (replicate 64 0)) (λ b e. false)
-    (λ b e o h. fresh 64 first (gathered words (task .premise) (task .premises) false p0 p1 p2) (omega arith) a₁ b e o (omega arith)
-    ∙ gathered-on (task .premises) p0 p1 p2 l (f .premise) t b e o h)
-    (λ b e o h. fresh 64 third (gathered words (task .third) (task .thirds) true p0 p1 p2) (omega arith) a₃ b e o (omega arith)
-    ∙ gathered-short (task .thirds) p0 p1 p2 l (f .third) t b e o h)
-    (λ b e o h. ap (λ (x : ℕ). bit x e) (getD-replicate 64 b 0 0 (omega arith)) ∙ bit-nothing e)
-    (kindOf (task .kind)) places (rw e at least))
+    thirds : ℕ → ℕ → Bool
+    thirds = shortInside (partOf (nodeAt nodes) (task .third) (task .thirds)) σ ν
 
--- the first fill, every name on cycle 0
-pub laid-first : {nodes trace reach words words′ : List ℕ} {count n : ℕ} → Ready nodes count trace n reach 0 0 0 words
-    → Tables (nodeAt nodes) count (cyclesOf trace) (standing 0 0 0) words′ → length words′ ≡ length words
-    → Laid nodes count trace n reach (replicate 3 0) words′
-laid-first r t e =
-    let some = r .given .some-cycles in
-    record { three = omega arith; ready = ready-at r (omega arith) (omega arith) (omega arith) e; tables = t }
+    replies : ℕ → ℕ → Bool
+    replies = answered (bit (task .rest)) (partOf (nodeAt nodes) (task .reply) (task .replies)) σ (n - 1) ν
+
+    abbrev Missed : ℕ → Type 0
+    Missed r = IsLeast best (λ y. missedOn nodes σ n task y ν) r
+
+    -- the premise has no interval
+    pub none-premised : (some : ℕ) → premised (kindOf (task .kind)) ≡ true → some ≡ 0
+        → Ends n (gathered words (task .premise) (task .premises) false ν) some → Missed best
+    unfolding missedOn missedTask
+    none-premised some p z ends =
+        least-stay (λ y l. numbered-false n _ y (λ hi hj hk.
+        missed-premise (kindOf (task .kind)) _ _ _ n _ _ _ p hj (λ b e o h.
+        sym (gathered-on (task .premises) (f .premise) b e o h)
+        ∙ is-false (gathered words (task .premise) (task .premises) false ν b e) (λ q.
+        false-not (bit some e) (ap (λ (x : ℕ). bit x e) z ∙ bit-nothing e) (ends .ends b e o h q)))))
+
+    -- rows that started empty
+    fresh : (rows : List ℕ) (q : ℕ → ℕ → Bool) → Adds n (replicate 64 0) rows q → (b e : ℕ) → b ≤ e → e < n → testOf rows b e ≡ q b e
+    unfolding testOf
+    fresh rows q a b e o h =
+        a .adds b e o h
+        ∙ ap (λ (x : ℕ). bit x e || q b e) (getD-replicate 64 b 0 0 (omega arith))
+        ∙ ap (λ (x : Bool). x || q b e) (bit-nothing e)
+
+    module _ (first third : List ℕ) (a₁ : Adds n (replicate 64 0) first (gathered words (task .premise) (task .premises) false ν))
+        (a₃ : Adds n (replicate 64 0) third (gathered words (task .third) (task .thirds) true ν)) where
+      first-is : (b e : ℕ) → b ≤ e → e < n → testOf first b e ≡ premises b e
+      unfolding premises
+      first-is b e o h = fresh first _ a₁ b e o h ∙ gathered-on (task .premises) (f .premise) b e o h
+
+      third-is : (b e : ℕ) → b ≤ e → e < n → testOf third b e ≡ thirds b e
+      unfolding thirds
+      third-is b e o h = fresh third _ a₃ b e o h ∙ gathered-short (task .thirds) (f .third) b e o h
+
+      pub place-least : (answers : List ℕ) (r : ℕ) → Adds n (replicate 64 0) answers (λ b e. overLast 3 (bit (task .rest)) n ν (replyOn nodes σ task b e))
+          → IsLeast best (numbered n (missed (kindOf (task .kind)) (testOf first) (testOf third) (testOf answers))) r → Missed r
+      unfolding missedOn missedTask answered replyOn overLast somePlacement premises thirds replies
+      place-least answers r a₂ least =
+          missed-least n (testOf first) premises (testOf third) thirds (testOf answers) replies first-is third-is
+          (λ b e o h. fresh answers _ a₂ b e o h) (kindOf (task .kind)) best r least
+
+      -- nothing is open without any answer
+      pub place-none : (rows : List ℕ) → rows ≡ replicate 64 0
+          → IsLeast best (numbered n (missed (kindOf (task .kind)) (testOf first) (testOf third) (testOf rows))) best → Missed best
+      unfolding missedOn missedTask testOf premises thirds replies
+      place-none rows z least =
+          least-stay (λ y l.
+          numbered-fewer n (missed (kindOf (task .kind)) premises thirds (λ b e. false)) (missed (kindOf (task .kind)) premises thirds replies)
+          (λ i j k. missed-fewer (kindOf (task .kind)) premises thirds replies i j k) y
+          (missed-least n (testOf first) premises (testOf third) thirds (testOf rows) (λ b e. false) first-is third-is
+          (λ b e o h. ap (λ (w : List ℕ). bit (getD w b 0) e) z ∙ ap (λ (x : ℕ). bit x e) (getD-replicate 64 b 0 0 (omega arith)) ∙ bit-nothing e)
+          (kindOf (task .kind)) best best least .before y l))

@@ -7,3 +7,4 @@ pub mod Gathered
 pub mod Loops
 pub mod Tasks
 pub mod Laying
+pub mod Walks

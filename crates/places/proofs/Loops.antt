@@ -1,63 +1,44 @@
--- Loops over the cycles of one name, and what they find.
-use Prim.Native.Nat.{ℕ, zero, suc, _+_, _-_, _/_, _%_, _≤_, _<_, min}
+-- Loops over the cycles of one name, and what a walk over placements finds.
+use Prim.Native.Nat.{ℕ, zero, suc, _+_, _-_, _/_, _%_, _≤_, _<_}
 use native.Mathlib.Omega.{arith}
 use native.Mathlib.Numerals.{add-one}
 use mathlib.Core.Bool.{Bool, true, false, not, cond, _&&_, _||_}
-use mathlib.Core.List.{List}
+use mathlib.Core.List.{List, [], _∷_}
 use mathlib.Core.Logic.{inl, inr}
 use mathlib.Core.Path.{_≡_, refl, sym, ap, ap₂, fun-ext, _∙_}
 use lib.Dec.{leb, eqb}
-use borrow.Author.Tests.{leb-true, leb-false}
+use lib.ListN.{length, getD, set}
+use lib.Seq.{getD-set-same, getD-set-other}
+use borrow.Author.Tests.{leb-true, eqb-true, eqb-false}
 use Rattle.semantics.specs.Cycles.{someFrom, someIn}
-use Rattle.semantics.specs.Proposition.{bit}
+use Rattle.semantics.specs.Proposition.{Trace, bit}
 use Rattle.semantics.specs.Placement.{Names, noNames, Placement, unplaced, moved, placeName}
 use Rattle.semantics.specs.Clause.{Kind, pref, init, anti, implies, follows, triggers}
 use Rattle.semantics.proofs.Tests.{same, test, or-false}
 use Rattle.semantics.proofs.Cycles.{some-intro, some-elim, some-none, some-cong}
-use Rattle.semantics.proofs.Placement.{moved-same, not-near}
-use Rattle.tables.specs.Table.{standing}
+use Rattle.semantics.proofs.Placement.{moved-same}
+use Rattle.tables.specs.Table.{standing, Inside}
+use Rattle.places.specs.declared.walk.Job.{Job}
 use Rattle.places.specs.Search.{missed}
-use Rattle.places.specs.Places.{places, numbered, IsLeast}
+use Rattle.places.specs.Places.{numbered, IsLeast}
 use Rattle.places.specs.Rows.{testOf}
 use Rattle.places.specs.Gather.{Adds}
-use Rattle.places.specs.Loops.{lowOf, highOf}
-use Rattle.places.proofs.Places.{least-ext, least-first, least-second, least-none, some-step, numbered-same}
+use Rattle.places.specs.Laid.{Walked, overLast, missedOn, replyOn, lowOf, lastOf}
+use Rattle.places.proofs.Places.{least-ext, least-stay, least-then, some-step, numbered-same}
 
-pub moved0 : (t p0 p1 p2 : ℕ) → moved 0 t (standing p0 p1 p2) ≡ standing t p1 p2
+-- one name put on a cycle
+pub moved-standing : (cycles : List ℕ) (u t : ℕ) → u < length cycles → moved u t (standing cycles) ≡ standing (set cycles u t)
 unfolding moved standing
-moved0 t p0 p1 p2 = fun-ext all
-  where
-    all : (u : ℕ) → moved 0 t (standing p0 p1 p2) u ≡ standing t p1 p2 u
-    all zero = refl
-    all (suc zero) = refl
-    all (suc (suc zero)) = refl
-    all (suc (suc (suc u))) = rw (not-near 0 u (omega arith))
+moved-standing cycles u t h = fun-ext (λ v. elim (test (eqb v u)) [
+  | inl e ↦ rw (e, eqb-true v u e) (sym (getD-set-same cycles u t 0 h))
+  | inr e ↦ rw e (sym (getD-set-other cycles u v t 0 (eqb-false v u e)))
+])
 
-pub moved1 : (t p0 p1 p2 : ℕ) → moved 1 t (standing p0 p1 p2) ≡ standing p0 t p2
-unfolding moved standing
-moved1 t p0 p1 p2 = fun-ext all
-  where
-    all : (u : ℕ) → moved 1 t (standing p0 p1 p2) u ≡ standing p0 t p2 u
-    all zero = refl
-    all (suc zero) = refl
-    all (suc (suc zero)) = refl
-    all (suc (suc (suc u))) = rw (not-near 1 u (omega arith))
-
-pub moved2 : (t p0 p1 p2 : ℕ) → moved 2 t (standing p0 p1 p2) ≡ standing p0 p1 t
-unfolding moved standing
-moved2 t p0 p1 p2 = fun-ext all
-  where
-    all : (u : ℕ) → moved 2 t (standing p0 p1 p2) u ≡ standing p0 p1 t u
-    all zero = refl
-    all (suc zero) = refl
-    all (suc (suc zero)) = refl
-    all (suc (suc (suc u))) = rw (not-near 2 u (omega arith))
-
-pub unplaced-stands : unplaced ≡ standing 0 0 0
+pub unplaced-stands : unplaced ≡ standing (0 ∷ 0 ∷ 0 ∷ [])
 unfolding unplaced standing
 unplaced-stands = fun-ext all
   where
-    all : (u : ℕ) → unplaced u ≡ standing 0 0 0 u
+    all : (u : ℕ) → unplaced u ≡ standing (0 ∷ 0 ∷ 0 ∷ []) u
     all zero = refl
     all (suc zero) = refl
     all (suc (suc zero)) = refl
@@ -65,93 +46,90 @@ unplaced-stands = fun-ext all
 
 -- a loop over the cycles of name u is its placement
 pub place-loop : (u : ℕ) (names : Names) (n : ℕ) (ν : Placement) (q : Placement → Bool) → 0 < n
-    → someFrom (lowOf (names u) (ν u)) (highOf (names u) n (ν u)) (λ t. q (moved u t ν)) ≡ placeName u noNames names 0 (n - 1) ν q
+    → someIn (lowOf (names u) (ν u)) (lastOf (names u) n (ν u)) (λ t. q (moved u t ν)) ≡ placeName u noNames names 0 (n - 1) ν q
 unfolding placeName noNames
 place-loop u names n ν q h = go (names u)
   where
-    whole : suc (n - 1) ≡ n
-    whole = omega arith
-
-    go : (a : Bool) → someFrom (cond a 0 (ν u)) (cond a n (ν u + 1)) (λ t. q (moved u t ν))
-        ≡ cond a (someIn 0 (n - 1) (λ t. q (moved u t ν))) (q ν)
-    go true = ap (λ (e : ℕ). someFrom 0 e (λ t. q (moved u t ν))) (sym whole)
+    go : (a : Bool) → someIn (cond a 0 (ν u)) (cond a (n - 1) (ν u)) (λ t. q (moved u t ν)) ≡ cond a (someIn 0 (n - 1) (λ t. q (moved u t ν))) (q ν)
+    go true = refl
     go false =
-        same (someFrom (ν u) (ν u + 1) (λ t. q (moved u t ν))) (q ν)
-        (λ s. let w = some-elim (ν u) (ν u + 1) (λ t. q (moved u t ν)) s in
+        same (someIn (ν u) (ν u) (λ t. q (moved u t ν))) (q ν)
+        (λ s. let w = some-elim (ν u) (suc (ν u)) (λ t. q (moved u t ν)) s in
         let e : w .at ≡ ν u = omega (arith, w .low, w .high) in
         rw (moved-same u (w .at) ν e) at (w .ok))
-        (λ s. some-intro (ν u) (ν u + 1) (λ t. q (moved u t ν)) (ν u) (omega arith) (omega arith) (rw (moved-same u (ν u) ν refl) s))
+        (λ s. some-intro (ν u) (suc (ν u)) (λ t. q (moved u t ν)) (ν u) (omega arith) (omega arith) (rw (moved-same u (ν u) ν refl) s))
 
--- the same, where the placement for each cycle is known
-pub loop-over : (u names n : ℕ) (ν : Placement) (at : ℕ → Placement) (q : Placement → Bool) (low high : ℕ) → ((t : ℕ) → moved u t ν ≡ at t) → 0 < n
-    → low ≡ lowOf (bit names u) (ν u) → high ≡ highOf (bit names u) n (ν u)
-    → someFrom low high (λ t. q (at t)) ≡ placeName u noNames (bit names) 0 (n - 1) ν q
-loop-over u names n ν at q low high f h l k =
-    ap₂ (λ (a b : ℕ). someFrom a b (λ t. q (at t))) l k
-    ∙ ap (λ (g : ℕ → Bool). someFrom (lowOf (bit names u) (ν u)) (highOf (bit names u) n (ν u)) g) (fun-ext (λ t. ap q (sym (f t))))
-    ∙ place-loop u (bit names) n ν q h
+pub low-last : (moves : Bool) (n p : ℕ) → p < n → (lowOf moves p ≤ lastOf moves n p) × (lastOf moves n p < n)
+low-last true n p h = (omega arith, omega arith)
+low-last false n p h = (omega arith, omega arith)
 
-pub low-high : (moves : Bool) (n p : ℕ) → p < n → lowOf moves p ≤ highOf moves n p
-low-high true n p h = omega arith
-low-high false n p h = omega arith
-
-pub high-most : (moves : Bool) (n p : ℕ) → p < n → highOf moves n p ≤ n
-high-most true n p h = omega arith
-high-most false n p h = omega arith
-
--- ---- least places over the cycles passed
-pub least-start : (low : ℕ) (p : ℕ → ℕ → Bool) → IsLeast (λ x. someFrom low low (λ t. p t x)) places
-least-start low p = least-none (λ x l. some-none low low (λ t. p t x) (λ t a b q. absurd (omega arith)))
-
-module _ (low t : ℕ) (p : ℕ → ℕ → Bool) (best r : ℕ) (h : low ≤ t) (a : IsLeast (λ x. someFrom low t (λ t. p t x)) best) (b : IsLeast (p t) r) where
-  turn : (x : ℕ) → someFrom low t (λ t. p t x) || p t x ≡ someFrom low (t + 1) (λ t. p t x)
-  turn x = sym (some-step low t (λ t. p t x) h) ∙ ap (λ (e : ℕ). someFrom low e (λ t. p t x)) (sym (add-one t))
-
-  least-kept : best ≤ r → IsLeast (λ x. someFrom low (t + 1) (λ t. p t x)) best
-  least-kept l = least-ext (λ x m. turn x) (least-first a b l)
-
-  least-lower : r ≤ best → IsLeast (λ x. someFrom low (t + 1) (λ t. p t x)) r
-  least-lower l = least-ext (λ x m. turn x) (least-second a b l)
-
-  -- the lesser of the two
-  pub least-turn : IsLeast (λ x. someFrom low (t + 1) (λ t. p t x)) (min r best)
-  least-turn =
-      elim (test (leb r best)) [
-        | inl l ↦
-            let o = leb-true r best l in
-            let e : min r best ≡ r = omega arith in
-            rw e (least-lower o)
-        | inr l ↦
-            let o = leb-false r best l in
-            let e : min r best ≡ best = omega arith in
-            rw e (least-kept (omega arith))
-      ]
-
--- ---- rows that gain the intervals of the cycles passed
-pub adds-start : (n low : ℕ) (rows : List ℕ) (q : ℕ → ℕ → ℕ → Bool) → Adds n rows rows (λ b e. someFrom low low (λ t. q t b e))
-adds-start n low rows q =
-    record {
-      adds = λ b e l h.
-          sym (or-false (testOf rows b e)) ∙ ap (λ (r : Bool). testOf rows b e || r) (sym (some-none low low (λ t. q t b e) (λ t x y z. absurd (omega arith))));
-    }
-
-pub adds-turn : (n low t : ℕ) (before middle after : List ℕ) (q : ℕ → ℕ → ℕ → Bool) → low ≤ t → Adds n before middle (λ b e. someFrom low t (λ t. q t b e))
-    → Adds n middle after (q t) → Adds n before after (λ b e. someFrom low (t + 1) (λ t. q t b e))
-adds-turn n low t before middle after q h f g =
-    record {
-      adds = λ b e l m.
-          g .adds b e l m ∙ ap (λ (r : Bool). r || q t b e) (f .adds b e l m)
-          ∙ regroup (testOf before b e) (someFrom low t (λ t. q t b e)) (q t b e)
-          ∙ ap (λ (r : Bool). testOf before b e || r)
-          (sym (some-step low t (λ t. q t b e) h) ∙ ap (λ (k : ℕ). someFrom low k (λ t. q t b e)) (sym (add-one t)));
-    }
-  where
-    regroup : (a b c : Bool) → a || b || c ≡ (a || (b || c))
-    regroup true b c = refl
-    regroup false b c = refl
+-- one level of a walk: the loop over the next name
+pub level : (cycles : List ℕ) (left : ℕ) (names : ℕ) (n low last : ℕ) (q : Placement → Bool) → length cycles ≡ 3 → 0 < left → left ≤ 3 → 0 < n
+    → low ≡ lowOf (bit names (3 - left)) (getD cycles (3 - left) 0) → last ≡ lastOf (bit names (3 - left)) n (getD cycles (3 - left) 0)
+    → someIn low last (λ t. overLast (left - 1) (bit names) n (standing (set cycles (3 - left) t)) q) ≡ overLast left (bit names) n (standing cycles) q
+unfolding overLast standing
+level cycles zero names n low last q long some three h l k = absurd (omega arith)
+level cycles (suc left) names n low last q long some three h l k =
+    let this : 3 - suc left ≡ 2 - left = omega arith in
+    let less : suc left - 1 ≡ left = omega arith in
+    ap₂ (λ (a b : ℕ). someIn a b (λ t. overLast (suc left - 1) (bit names) n (standing (set cycles (3 - suc left) t)) q)) l k
+    ∙ ap₂ (λ (u v : ℕ). someIn (lowOf (bit names u) (getD cycles u 0)) (lastOf (bit names u) n (getD cycles u 0)) (λ t. overLast v (bit names) n (standing (set cycles u t)) q)) this less
+    ∙ ap (someIn (lowOf (bit names (2 - left)) (getD cycles (2 - left) 0)) (lastOf (bit names (2 - left)) n (getD cycles (2 - left) 0)))
+    (fun-ext (λ t. ap (λ (ν : Placement). overLast left (bit names) n ν q) (sym (moved-standing cycles (2 - left) t (omega arith)))))
+    ∙ place-loop (2 - left) (bit names) n (standing cycles) (λ ν. overLast left (bit names) n ν q) h
 
 pub adds-ext : (n : ℕ) (before after : List ℕ) (p q : ℕ → ℕ → Bool) → ((b e : ℕ) → b ≤ e → e < n → p b e ≡ q b e) → Adds n before after p → Adds n before after q
 adds-ext n before after p q f a = record { adds = λ b e l h. a .adds b e l h ∙ ap (λ (r : Bool). testOf before b e || r) (f b e l h) }
+
+-- ---- what a walk has found
+module _ (job : Job) (nodes : List ℕ) (σ : Trace) where
+  pub walked-ext : {best r : ℕ} {rows rows′ : List ℕ} {over over′ : (Placement → Bool) → Bool} → ((q : Placement → Bool) → over q ≡ over′ q)
+      → Walked job nodes σ best r rows rows′ over → Walked job nodes σ best r rows rows′ over′
+  walked-ext {rows = rows} {rows′} {over} {over′} f w =
+      record {
+        places = λ e. least-ext (λ y h. f (missedOn nodes σ (job .n) (job .task) y)) (w .places e);
+        answers = λ e. adds-ext (job .n) rows rows′ _ _ (λ b c l h. f (replyOn nodes σ (job .task) b c)) (w .answers e);
+        most = w .most;
+      }
+
+  -- nothing yet
+  pub walked-none : (best low : ℕ) (rows : List ℕ) (over : ℕ → (Placement → Bool) → Bool) → Walked job nodes σ best best rows rows (λ q. someFrom low low (λ t. over t q))
+  walked-none best low rows over =
+      record {
+        places = λ e. least-stay (λ y h. none (missedOn nodes σ (job .n) (job .task) y));
+        answers = λ e. record {
+          adds = λ b c l h.
+              sym (or-false (testOf rows b c)) ∙ ap (λ (r : Bool). testOf rows b c || r) (sym (none (replyOn nodes σ (job .task) b c)));
+        };
+        most = omega arith;
+      }
+    where
+      none : (q : Placement → Bool) → someFrom low low (λ t. over t q) ≡ false
+      none q = some-none low low (λ t. over t q) (λ t x y z. absurd (omega arith))
+
+  -- one cycle more
+  pub walked-turn : (low t : ℕ) {best r s : ℕ} {rows rows′ rows″ : List ℕ} (over : ℕ → (Placement → Bool) → Bool) → low ≤ t
+      → Walked job nodes σ best r rows rows′ (λ q. someFrom low t (λ t. over t q)) → Walked job nodes σ r s rows′ rows″ (over t)
+      → Walked job nodes σ best s rows rows″ (λ q. someFrom low (t + 1) (λ t. over t q))
+  walked-turn low t {best} {r} {s} {rows} {rows′} {rows″} over h w v =
+      record {
+        places = λ e. least-ext (λ y l. turn (missedOn nodes σ (job .n) (job .task) y)) (least-then (w .places e) (v .places e));
+        answers = λ e. record {
+          adds = λ b c l m.
+              v .answers e .adds b c l m
+              ∙ ap (λ (x : Bool). x || over t (replyOn nodes σ (job .task) b c)) (w .answers e .adds b c l m)
+              ∙ regroup (testOf rows b c) (someFrom low t (λ t. over t (replyOn nodes σ (job .task) b c))) (over t (replyOn nodes σ (job .task) b c))
+              ∙ ap (λ (x : Bool). testOf rows b c || x) (turn (replyOn nodes σ (job .task) b c));
+        };
+        most = let l = w .most in let m = v .most in omega arith;
+      }
+    where
+      turn : (q : Placement → Bool) → someFrom low t (λ t. over t q) || over t q ≡ someFrom low (t + 1) (λ t. over t q)
+      turn q = sym (some-step low t (λ t. over t q) h) ∙ ap (λ (e : ℕ). someFrom low e (λ t. over t q)) (sym (add-one t))
+
+      regroup : (a b c : Bool) → a || b || c ≡ (a || (b || c))
+      regroup true b c = refl
+      regroup false b c = refl
 
 -- ---- tests that agree on the intervals of the trace miss alike
 module _ (n : ℕ) (f f′ t t′ a a′ : ℕ → ℕ → Bool) (ef : (b e : ℕ) → b ≤ e → e < n → f b e ≡ f′ b e) (et : (b e : ℕ) → b ≤ e → e < n → t b e ≡ t′ b e)
@@ -182,7 +160,7 @@ module _ (n : ℕ) (f f′ t t′ a a′ : ℕ → ℕ → Bool) (ef : (b e : �
       (λ p q. ap₂ (λ (r s : Bool). r && s) (ef i j (leb-true i j p) hj)
       (ap₂ (λ (r s : Bool). r && not s) (et i k (leb-true i k q) hk) (none-upto i k hk)))
 
-  pub missed-least : (κ : Kind) (r : ℕ) → IsLeast (numbered n (missed κ f t a)) r → IsLeast (numbered n (missed κ f′ t′ a′)) r
-  missed-least κ r l =
+  pub missed-least : (κ : Kind) (best r : ℕ) → IsLeast best (numbered n (missed κ f t a)) r → IsLeast best (numbered n (missed κ f′ t′ a′)) r
+  missed-least κ best r l =
       least-ext (λ x m. numbered-same n (missed κ f t a) (missed κ f′ t′ a′) x
       (λ hi hj hk. missed-ext κ (x / 4096) (x / 64 % 64) (x % 64) hj hk)) l

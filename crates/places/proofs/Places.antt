@@ -1,5 +1,5 @@
 -- Laws of least places.
-use Prim.Native.Nat.{ℕ, suc, _/_, _%_, _≤_, _<_}
+use Prim.Native.Nat.{ℕ, suc, _/_, _%_, _≤_, _<_, min}
 use native.Mathlib.Omega.{arith}
 use native.Mathlib.Nat.{eq-or-lt-of-le}
 use mathlib.Core.Bool.{Bool, true, false, _&&_, _||_}
@@ -17,7 +17,7 @@ use Rattle.semantics.proofs.Cycles.{some-intro, some-elim, below-intro}
 use Rattle.semantics.proofs.Verdict.{FirstPlace, Sooner, place-first}
 use Rattle.places.specs.Places.{places, number, numbered, IsLeast}
 
-pub least-ext : {p q : ℕ → Bool} {r : ℕ} → ((x : ℕ) → x < places → p x ≡ q x) → IsLeast p r → IsLeast q r
+pub least-ext : {bound : ℕ} {p q : ℕ → Bool} {r : ℕ} → ((x : ℕ) → x < bound → p x ≡ q x) → IsLeast bound p r → IsLeast bound q r
 least-ext f l =
     record {
       most = l .most;
@@ -25,29 +25,35 @@ least-ext f l =
       before = λ x h. sym (f x (omega (arith, l .most))) ∙ l .before x h;
     }
 
--- the lesser of two least numbers is the least that passes either test
-pub least-first : {p q : ℕ → Bool} {r t : ℕ} → IsLeast p r → IsLeast q t → r ≤ t → IsLeast (λ x. p x || q x) r
-least-first {p} {q} {r} {t} a b h =
+-- nothing passes below the bound
+pub least-stay : {bound : ℕ} {p : ℕ → Bool} → ((x : ℕ) → x < bound → p x ≡ false) → IsLeast bound p bound
+least-stay f = record { most = omega arith; found = λ h. absurd (omega arith); before = f }
+
+-- the least by a second test, looked for below the least by the first
+pub least-then : {bound r t : ℕ} {p q : ℕ → Bool} → IsLeast bound p r → IsLeast r q t → IsLeast bound (λ x. p x || q x) t
+least-then {bound} {r} {t} {p} {q} a b =
     record {
-      most = a .most;
-      found = λ l. or-left (p r) (q r) (a .found l);
-      before = λ x l. rw (a .before x l) (b .before x (omega arith));
+      most = let l = a .most in let m = b .most in omega arith;
+      found = λ h. elim (eq-or-lt-of-le (b .most)) [
+        | inl e ↦ or-left (p t) (q t) (subst (λ (x : ℕ). p x ≡ true) (sym e) (a .found (omega arith)))
+        | inr l ↦ or-right (p t) (q t) (b .found l)
+      ];
+      before = λ x l. rw (a .before x (let m = b .most in omega arith)) (b .before x l);
     }
 
-pub least-second : {p q : ℕ → Bool} {r t : ℕ} → IsLeast p r → IsLeast q t → t ≤ r → IsLeast (λ x. p x || q x) t
-least-second {p} {q} {r} {t} a b h =
-    record {
-      most = b .most;
-      found = λ l. or-right (p t) (q t) (b .found l);
-      before = λ x l. rw (a .before x (omega arith)) (b .before x l);
-    }
-
-pub least-none : {p : ℕ → Bool} → ((x : ℕ) → x < places → p x ≡ false) → IsLeast p places
-least-none f = record { most = omega arith; found = λ h. absurd (omega arith); before = f }
-
--- nothing passes a test that is harder than one which nothing passes
-pub least-fewer : {p q : ℕ → Bool} → ((x : ℕ) → p x ≡ false → q x ≡ false) → IsLeast p places → IsLeast q places
-least-fewer f l = least-none (λ x h. f x (l .before x h))
+-- the least of all, looked for below a bound
+pub least-below : {bound r : ℕ} {p : ℕ → Bool} (best : ℕ) → best ≤ bound → IsLeast bound p r → IsLeast best p (min r best)
+least-below {bound} {r} {p} best h l =
+    elim (test (ltb r best)) [
+      | inl q ↦
+          let m = ltb-true r best q in
+          let e : min r best ≡ r = omega arith in
+          rw e (record { most = omega arith; found = λ _. l .found (omega arith); before = l .before })
+      | inr q ↦
+          let m = ltb-false r best q in
+          let e : min r best ≡ best = omega arith in
+          rw e (least-stay (λ x y. l .before x (omega arith)))
+    ]
 
 -- one more turn of a loop over cycles
 pub some-step : (b e : ℕ) (p : ℕ → Bool) → b ≤ e → someFrom b (suc e) p ≡ (someFrom b e p || p e)
@@ -124,7 +130,7 @@ numbered-fewer n p q f x = go (ltb (x / 4096) n && (ltb (x / 64 % 64) n && ltb (
     go false h = refl
 
 -- the first place by i, then j, then k has the least number
-pub first-is-least : (n : ℕ) (p : ℕ → ℕ → ℕ → Bool) (i j k : ℕ) → n ≤ 64 → FirstPlace n p i j k → IsLeast (numbered n p) (number i j k)
+pub first-is-least : (n : ℕ) (p : ℕ → ℕ → ℕ → Bool) (i j k : ℕ) → n ≤ 64 → FirstPlace n p i j k → IsLeast places (numbered n p) (number i j k)
 first-is-least n p i j k h w =
     record {
       most = omega (arith, w .i-cycle, w .j-cycle, w .k-cycle);
@@ -152,8 +158,8 @@ first-is-least n p i j k h w =
           | inr m ↦ inl m
         ]
 
-pub least-unique : {p : ℕ → Bool} {r t : ℕ} → IsLeast p r → IsLeast p t → r ≡ t
-least-unique {p} {r} {t} a b =
+pub least-unique : {bound : ℕ} {p : ℕ → Bool} {r t : ℕ} → IsLeast bound p r → IsLeast bound p t → r ≡ t
+least-unique {p = p} {r} {t} a b =
     elim (test (ltb r t)) [
       | inl h ↦
           let l = ltb-true r t h in
@@ -172,7 +178,7 @@ same-place : (clause i j k i′ j′ k′ : ℕ) → i ≡ i′ → j ≡ j′ �
 same-place clause i j k i′ j′ k′ p q r = λ t. record { clause = clause; i = p t; j = q t; k = r t }
 
 -- what the least place of a clause says of it
-module _ (c : Clause) (σ : Trace) (short : length σ ≤ 64) (r : ℕ) (l : IsLeast (numbered (length σ) (breaks c σ)) r) where
+module _ (c : Clause) (σ : Trace) (short : length σ ≤ 64) (r : ℕ) (l : IsLeast places (numbered (length σ) (breaks c σ)) r) where
   pub fails-least : fails c σ ≡ ltb r places
   unfolding fails
   fails-least =

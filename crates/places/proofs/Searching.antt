@@ -1,5 +1,5 @@
 -- The turns of the search, over the three arrays of rows.
-use Prim.Native.Nat.{ℕ, _+_, _/_, _%_, _≤_, _<_}
+use Prim.Native.Nat.{ℕ, _+_, _/_, _%_, _≤_, _<_, min}
 use native.Mathlib.Omega.{arith}
 use native.Mathlib.Nat.{eq-or-lt-of-le}
 use mathlib.Core.Bool.{Bool, true, false}
@@ -16,9 +16,9 @@ use Rattle.rows.specs.Row.{word}
 use Rattle.rows.proofs.Rows.{word-bit}
 use Rattle.places.specs.Search.{missed}
 use Rattle.places.specs.Places.{places, number, numbered, IsLeast}
-use Rattle.places.specs.Rows.{testOf, starting, ending, Next}
+use Rattle.places.specs.Rows.{testOf, starting, ending, unreplied, Next}
 use Rattle.places.proofs.Found.{missed-is}
-use Rattle.places.proofs.Places.{first-is-least, least-none, numbered-false}
+use Rattle.places.proofs.Places.{first-is-least, least-stay, least-below, numbered-false}
 
 module _ (κ : Kind) (first third answers : List ℕ) (n : ℕ) where
   abbrev pub unansweredAt : ℕ → ℕ → ℕ → Bool
@@ -42,7 +42,7 @@ module _ (κ : Kind) (first third answers : List ℕ) (n : ℕ) where
     no-start : (j k : ℕ) → j < n → bit from j ≡ false → unansweredAt i j k ≡ false
     no-start j k h e =
         missed-is κ (testOf first) (testOf third) (testOf answers) i j k
-        ∙ and-false-left (starting κ i (testOf first i) (testOf answers i) j) (ending κ i j (testOf third) (testOf answers) k) (sym (start-bit j h) ∙ e)
+        ∙ and-false-left (starting κ i (testOf first i) (testOf answers i) j) _ (sym (start-bit j h) ∙ e)
 
     pub first-end : (r : ℕ) → Next from 0 r → EndsPassed i r
     first-end r w j′ k l h m = no-start j′ k h (w .between j′ (omega arith) l)
@@ -59,46 +59,62 @@ module _ (κ : Kind) (first third answers : List ℕ) (n : ℕ) where
               ]
         ]
 
-    module _ (j to : ℕ) (ends : to ≡ word n (ending κ i j (testOf third) (testOf answers))) where
-      end-bit : (k : ℕ) → k < n → bit to k ≡ ending κ i j (testOf third) (testOf answers) k
-      end-bit k h = ap (λ (x : ℕ). bit x k) ends ∙ word-bit n (ending κ i j (testOf third) (testOf answers)) k h
+    module _ (j to : ℕ) (ends : to ≡ word n (ending κ i j (testOf third))) where
+      end-bit : (k : ℕ) → k < n → bit to k ≡ ending κ i j (testOf third) k
+      end-bit k h = ap (λ (x : ℕ). bit x k) ends ∙ word-bit n (ending κ i j (testOf third)) k h
 
       no-end : (k : ℕ) → k < n → bit to k ≡ false → unansweredAt i j k ≡ false
       no-end k h e =
           missed-is κ (testOf first) (testOf third) (testOf answers) i j k
-          ∙ and-false-right (starting κ i (testOf first i) (testOf answers i) j) (ending κ i j (testOf third) (testOf answers) k) (sym (end-bit k h) ∙ e)
+          ∙ and-false-right (starting κ i (testOf first i) (testOf answers i) j) _
+          (and-false-left (ending κ i j (testOf third) k) (unreplied κ i j (testOf answers) k) (sym (end-bit k h) ∙ e))
+
+      replied : (k : ℕ) → unreplied κ i j (testOf answers) k ≡ false → unansweredAt i j k ≡ false
+      replied k e =
+          missed-is κ (testOf first) (testOf third) (testOf answers) i j k
+          ∙ and-false-right (starting κ i (testOf first i) (testOf answers i) j) _
+          (and-false-right (ending κ i j (testOf third) k) (unreplied κ i j (testOf answers) k) e)
 
       pub first-cycle : (r : ℕ) → Next to 0 r → CyclesPassed i j r
       first-cycle r w k′ l h = no-end k′ h (w .between k′ (omega arith) l)
 
-      pub next-cycle : (k : ℕ) → bit to k ≡ false → CyclesPassed i j k → CyclesPassed i j (k + 1)
-      next-cycle k e before k′ l h =
-          let o : k′ ≤ k = omega arith in
-          elim (eq-or-lt-of-le o) [ inl q ↦ no-end k′ h (subst (λ (x : ℕ). bit to x ≡ false) (sym q) e) | inr p ↦ before k′ p h ]
+      pub next-cycle : (k r : ℕ) → Next to (k + 1) r → unreplied κ i j (testOf answers) k ≡ false → CyclesPassed i j k → CyclesPassed i j r
+      next-cycle k r w e before k′ l h =
+          elim (test (ltb k′ k)) [
+            | inl q ↦ before k′ (ltb-true k′ k q) h
+            | inr q ↦
+                let o : k ≤ k′ = ltb-false k′ k q in
+                elim (eq-or-lt-of-le o) [
+                  | inl s ↦ subst (λ (x : ℕ). unansweredAt i j x ≡ false) s (replied k e)
+                  | inr p ↦ no-end k′ h (w .between k′ (omega arith) l)
+                ]
+          ]
 
       -- the first place that is found
-      pub found-least : (k : ℕ) → n ≤ 64 → i < n → j < n → k < n → bit from j ≡ true → bit to k ≡ true → RowsPassed i → EndsPassed i j → CyclesPassed i j k
-          → IsLeast (numbered n unansweredAt) (number i j k)
-      found-least k s hi hj hk from-j to-k rows ends cycles =
-          first-is-least n unansweredAt i j k s
+      pub found-least : (k best : ℕ) → best ≤ places → n ≤ 64 → i < n → j < n → k < n → bit from j ≡ true → bit to k ≡ true → unreplied κ i j (testOf answers) k ≡ true
+          → RowsPassed i → EndsPassed i j → CyclesPassed i j k → IsLeast best (numbered n unansweredAt) (min (number i j k) best)
+      found-least k best most s hi hj hk from-j to-k still rows ends cycles =
+          least-below best most (first-is-least n unansweredAt i j k s
           (record {
             i-cycle = hi;
             j-cycle = hj;
             k-cycle = hk;
             ok =
                 missed-is κ (testOf first) (testOf third) (testOf answers) i j k
-                ∙ and-intro (starting κ i (testOf first i) (testOf answers i) j) (ending κ i j (testOf third) (testOf answers) k)
-                (sym (start-bit j hj) ∙ from-j) (sym (end-bit k hk) ∙ to-k);
+                ∙ and-intro (starting κ i (testOf first i) (testOf answers i) j) _
+                (sym (start-bit j hj) ∙ from-j) (and-intro (ending κ i j (testOf third) k) _ (sym (end-bit k hk) ∙ to-k) still);
             before = λ i′ j′ k′ hj′ hk′. elim [
               | inl l ↦ rows i′ j′ k′ l hj′ hk′
               | inr r ↦ rw (r .0) (elim (r .1) [ inl l ↦ ends j′ k′ l hj′ hk′ | inr e ↦ rw (e .0) (cycles k′ (e .1) hk′) ])
             ];
-          })
+          }))
 
   pub next-row : (i : ℕ) → RowsPassed i → EndsPassed i n → RowsPassed (i + 1)
   next-row i rows ends i′ j k l hj hk =
       let o : i′ ≤ i = omega arith in
       elim (eq-or-lt-of-le o) [ inl q ↦ rw q (ends j k hj hj hk) | inr p ↦ rows i′ j k p hj hk ]
 
-  pub none-found : RowsPassed n → IsLeast (numbered n unansweredAt) places
-  none-found rows = least-none (λ x l. numbered-false n unansweredAt x (λ hi hj hk. rows (x / 4096) (x / 64 % 64) (x % 64) hi hj hk))
+  -- nothing in the rows of places before the best
+  pub none-found : (best : ℕ) → RowsPassed (min n ((best + 4095) / 4096)) → IsLeast best (numbered n unansweredAt) best
+  none-found best rows =
+      least-stay (λ x l. numbered-false n unansweredAt x (λ hi hj hk. rows (x / 4096) (x / 64 % 64) (x % 64) (omega arith) hj hk))

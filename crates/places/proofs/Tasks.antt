@@ -2,6 +2,7 @@
 use Prim.Native.Nat.{ℕ, suc, _-_, _^_, _/_, _%_, _≤_, _<_}
 use native.Mathlib.Omega.{arith}
 use mathlib.Core.Bool.{Bool, true, not, _&&_}
+use mathlib.Core.List.{[], _∷_}
 use mathlib.Core.Logic.{inl, inr}
 use mathlib.Core.Path.{_≡_, refl, sym, ap, ap₂, fun-ext, _∙_}
 use lib.Bits.{bitAnd, bitOr, or-lt}
@@ -116,10 +117,10 @@ numbered-placement n last names ν p y =
 
 task-breaks : (x : ℕ → Node) (d : StoredClause) (σ : Trace) (last : ℕ) → Masks d → 1 ≤ d .kind → d .kind ≤ 6 → clauseFits (clauseOf x d) ≡ true
     → last < length σ → (i j k : ℕ) → j ≤ last → k ≤ last
-    → somePlacement noNames (bit (taskOf d .quantified)) 0 last (standing 0 0 0) (λ ν. missedTask x (taskOf d) σ last ν i j k) ≡ breaks (clauseOf x d) σ i j k
+    → somePlacement noNames (bit (taskOf d .quantified)) 0 last (standing (0 ∷ 0 ∷ 0 ∷ [])) (λ ν. missedTask x (taskOf d) σ last ν i j k) ≡ breaks (clauseOf x d) σ i j k
 unfolding breaks clauseOf clauseFits partOf
 task-breaks x d σ last m l h fit inσ i j k hj hk =
-    ap (λ (names : Names). somePlacement noNames names 0 last (standing 0 0 0) (λ ν. missedTask x (taskOf d) σ last ν i j k)) (task-quantified d l h)
+    ap (λ (names : Names). somePlacement noNames names 0 last (standing (0 ∷ 0 ∷ 0 ∷ [])) (λ ν. missedTask x (taskOf d) σ last ν i j k)) (task-quantified d l h)
     ∙ ap₂ (λ (ν : Placement) (p : Placement → Bool). somePlacement noNames (quantified (stored.kindOf (d .kind)) (bit (d .mask1)) (bit (d .mask2)) (bit (d .mask3))) 0 last ν p)
     (sym unplaced-stands) (fun-ext (λ ν. task-missed x d m l h σ last ν i j k))
     ∙ sym (out i j k hj hk)
@@ -131,14 +132,14 @@ task-breaks x d σ last m l h fit inσ i j k hj hk =
         breaks-out (stored.kindOf (d .kind)) (partOf x (d .root1) (d .mask1)) (partOf x (d .root2) (d .mask2)) (partOf x (d .root3) (d .mask3)) σ last inσ fit
 
 -- the least place over all placements of the quantified names is the clause's
-pub task-least : (x : ℕ → Node) (d : StoredClause) (σ : Trace) (last r : ℕ) → Masks d → 1 ≤ d .kind → d .kind ≤ 6 → clauseFits (clauseOf x d) ≡ true
+pub task-least : (x : ℕ → Node) (d : StoredClause) (σ : Trace) (last best r : ℕ) → Masks d → 1 ≤ d .kind → d .kind ≤ 6 → clauseFits (clauseOf x d) ≡ true
     → length σ ≡ suc last
-    → IsLeast (λ y. somePlacement noNames (bit (taskOf d .quantified)) 0 last (standing 0 0 0) (λ ν. numbered (length σ) (missedTask x (taskOf d) σ last ν) y)) r
-    → IsLeast (numbered (length σ) (breaks (clauseOf x d) σ)) r
-task-least x d σ last r m l h fit long least =
+    → IsLeast best (λ y. somePlacement noNames (bit (taskOf d .quantified)) 0 last (standing (0 ∷ 0 ∷ 0 ∷ [])) (λ ν. numbered (length σ) (missedTask x (taskOf d) σ last ν) y)) r
+    → IsLeast best (numbered (length σ) (breaks (clauseOf x d) σ)) r
+task-least x d σ last best r m l h fit long least =
     least-ext
-    (λ y b. numbered-placement (length σ) last (bit (taskOf d .quantified)) (standing 0 0 0) (λ ν. missedTask x (taskOf d) σ last ν) y
-    ∙ numbered-same (length σ) (λ i j k. somePlacement noNames (bit (taskOf d .quantified)) 0 last (standing 0 0 0) (λ ν. missedTask x (taskOf d) σ last ν i j k))
+    (λ y b. numbered-placement (length σ) last (bit (taskOf d .quantified)) (standing (0 ∷ 0 ∷ 0 ∷ [])) (λ ν. missedTask x (taskOf d) σ last ν) y
+    ∙ numbered-same (length σ) (λ i j k. somePlacement noNames (bit (taskOf d .quantified)) 0 last (standing (0 ∷ 0 ∷ 0 ∷ [])) (λ ν. missedTask x (taskOf d) σ last ν i j k))
     (breaks (clauseOf x d) σ) y
     (λ hi hj hk. task-breaks x d σ last m l h fit (omega arith) (y / 4096) (y / 64 % 64) (y % 64) (omega arith) (omega arith)))
     least

@@ -16,8 +16,8 @@ unfoldable pub numbered : ℕ → (ℕ → ℕ → ℕ → Bool) → ℕ → Boo
 numbered n p x =
     ltb (x / 4096) n && (ltb (x / 64 % 64) n && ltb (x % 64) n) && p (x / 4096) (x / 64 % 64) (x % 64)
 
--- r is the least number that passes, or `places` where none does
-pub record IsLeast (p : ℕ → Bool) (r : ℕ) : Type 0 where
-  pub most : r ≤ places
-  pub found : r < places → p r ≡ true
+-- r is the least number below the bound that passes, or the bound where none does
+pub record IsLeast (bound : ℕ) (p : ℕ → Bool) (r : ℕ) : Type 0 where
+  pub most : r ≤ bound
+  pub found : r < bound → p r ≡ true
   pub before : (x : ℕ) → x < r → p x ≡ false

@@ -32,18 +32,23 @@ starting clause.implies i first answers j = leb i j && (first j && not (answers 
 starting clause.follows i first answers j = leb i j && first j
 starting clause.triggers i first answers j = leb i j && first j
 
--- Ξ of D3 from s to k, and no answer from s up to k
-unfoldable pub unmet : ℕ → (ℕ → Bool) → (ℕ → Bool) → ℕ → Bool
-unmet s third answers k = leb s k && (third k && not (someIn s k answers))
+-- the cycles k at which the interval from i to j may then be unanswered: where Ξ of D3 ends, or j itself
+unfoldable pub ending : clause.Kind → ℕ → ℕ → (ℕ → ℕ → Bool) → ℕ → Bool
+ending clause.pref i j third k = eqb k j
+ending clause.init i j third k = eqb k j
+ending clause.anti i j third k = eqb k j
+ending clause.implies i j third k = eqb k j
+ending clause.follows i j third k = leb j k && third j k
+ending clause.triggers i j third k = leb i k && third i k
 
--- the cycles k at which the interval from i to j is then unanswered
-unfoldable pub ending : clause.Kind → ℕ → ℕ → (ℕ → ℕ → Bool) → (ℕ → ℕ → Bool) → ℕ → Bool
-ending clause.pref i j third answers k = eqb k j
-ending clause.init i j third answers k = eqb k j
-ending clause.anti i j third answers k = eqb k j
-ending clause.implies i j third answers k = eqb k j
-ending clause.follows i j third answers k = unmet j (third j) (answers j) k
-ending clause.triggers i j third answers k = unmet i (third i) (answers i) k
+-- no answer comes up to k; what the first four types answer is asked of j already
+unfoldable pub unreplied : clause.Kind → ℕ → ℕ → (ℕ → ℕ → Bool) → ℕ → Bool
+unreplied clause.pref i j answers k = true
+unreplied clause.init i j answers k = true
+unreplied clause.anti i j answers k = true
+unreplied clause.implies i j answers k = true
+unreplied clause.follows i j answers k = not (someIn j k (answers j))
+unreplied clause.triggers i j answers k = not (someIn i k (answers i))
 
 -- r is the least cycle from j on that belongs to the set; 64 or more where none does
 pub record Next (set j r : ℕ) : Type 0 where

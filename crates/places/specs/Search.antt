@@ -1,7 +1,7 @@
 -- How the check looks for a broken place: the names that a clause quantifies universally are put on cycles of the trace first; three tests on
 -- intervals then say all. The laws join this with the meanings; a reader need not believe it.
 use Prim.Native.Nat.{ℕ}
-use mathlib.Core.Bool.{Bool, not, _&&_, _||_}
+use mathlib.Core.Bool.{Bool, true, false, not, _&&_, _||_}
 use lib.Dec.{leb, eqb}
 use Rattle.semantics.specs.Cycles.{someIn}
 use Rattle.semantics.specs.Proposition.{Trace}
@@ -65,6 +65,15 @@ missed follows first third answers i j k =
     leb i j && leb j k && (first i j && (third j k && not (someIn j k (answers j))))
 missed triggers first third answers i j k =
     leb i j && leb i k && (first i j && (third i k && not (someIn i k (answers i))))
+
+-- the type starts from a premise
+unfoldable pub premised : Kind → Bool
+premised pref = false
+premised init = true
+premised anti = true
+premised implies = true
+premised follows = true
+premised triggers = true
 
 -- the same, with the names that the type quantifies standing where ν puts them
 unfoldable pub missedBy : Kind → Part → Part → Part → Trace → ℕ → Placement → ℕ → ℕ → ℕ → Bool

@@ -1,17 +1,20 @@
 // The search for the first unanswered place in three arrays of rows: the intervals of the premise, those of Ξ of D3, and the answers.
+use crate::choice::lesser;
 use rows::mask::before_first;
 use rows::mask::below;
 use rows::mask::cycles_from;
-use rows::mask::has;
 use rows::mask::only;
+use rows::mask::up_to;
 ghost use mathlib.Core.Path.{_≡_};
+ghost use mathlib.Core.Bool.{not};
 ghost use Prim.Native.Nat.{_<_, _≤_};
 ghost use lib.ListN.{length};
+ghost use Rattle.semantics.specs.Cycles.{someIn};
 ghost use Rattle.semantics.specs.Proposition.{bit};
 ghost use Rattle.rows.specs.Row.{word};
 ghost use Rattle.places.specs.Search.{missed};
 ghost use Rattle.places.specs.Places.{numbered, IsLeast};
-ghost use Rattle.places.specs.Rows.{kindOf, testOf, starting, unmet, ending, Next};
+ghost use Rattle.places.specs.Rows.{kindOf, testOf, starting, ending, unreplied, Next};
 
 // The types of clauses.
 pub enum Kind {
@@ -35,15 +38,6 @@ fn next(set: u64, j: usize) -> usize
     u64::trailing_zeros(later) as usize
 }
 
-// The ends of Ξ of D3 from s that no answer from s comes up to.
-fn unmet_ends(third: u64, answers: u64, s: usize, n: usize) -> u64
-    requires { ⌜ n ≤ 64 ⌝ }
-    ensures { λ r. ⌜ r ≡ word n (unmet s (bit third) (bit answers)) ⌝ }
-{
-    let later = answers & !below(s);
-    cycles_from(s, n) & (third & before_first(later))
-}
-
 // The ends of intervals from i that may be unanswered.
 fn starts(kind: Kind, first: u64, answers: u64, i: usize, n: usize) -> u64
     requires { ⌜ n ≤ 64 ⌝ }
@@ -65,42 +59,73 @@ fn starts(kind: Kind, first: u64, answers: u64, i: usize, n: usize) -> u64
     }
 }
 
-// The cycles k at which the interval from i to j is then unanswered.
-fn ends(kind: Kind, third: &[u64], answers: &[u64], i: usize, j: usize, n: usize) -> u64
-    requires { ⌜ (n ≤ 64) × (i < n) × (j < n) ⌝ }
-    requires { ⌜ (64 ≤ length (now third)) × (64 ≤ length (now answers)) ⌝ }
-    ensures { λ r. ⌜ r ≡ word n (ending (kindOf kind) i j (testOf (now (third .entry))) (testOf (now (answers .entry)))) ⌝ }
+// The cycles k at which the interval from i to j may then be unanswered.
+fn ends(kind: Kind, third: &[u64], i: usize, j: usize, n: usize) -> u64
+    requires { ⌜ (n ≤ 64) × (i < n) × (j < n) × (64 ≤ length (now third)) ⌝ }
+    ensures { λ r. ⌜ r ≡ word n (ending (kindOf kind) i j (testOf (now (third .entry)))) ⌝ }
 {
     match kind {
         Kind::Pref => only(j),
         Kind::Init => only(j),
         Kind::Anti => only(j),
         Kind::Implies => only(j),
-        Kind::Follows => unmet_ends(third[j], answers[j], j, n),
-        Kind::Triggers => unmet_ends(third[i], answers[i], i, n),
+        Kind::Follows => cycles_from(j, n) & third[j],
+        Kind::Triggers => cycles_from(i, n) & third[i],
     }
 }
 
-// The number of the first unanswered place by i, then j, then k, or PLACES.
-pub fn search(kind: Kind, first: &[u64], third: &[u64], answers: &[u64], n: usize) -> usize
-    requires { ⌜ n ≤ 64 ⌝ }
-    requires { ⌜ (64 ≤ length (now first)) × (64 ≤ length (now third)) × (64 ≤ length (now answers)) ⌝ }
-    ensures { λ r. ⌜ IsLeast (numbered n (missed (kindOf kind) (testOf (now (first .entry))) (testOf (now (third .entry))) (testOf (now (answers .entry))))) r ⌝ }
+// No cycle of a set lies from s up to k.
+fn none_between(set: u64, s: usize, k: usize) -> bool
+    requires { ⌜ k < 64 ⌝ }
+    ensures { λ r. ⌜ r ≡ not (someIn s k (bit set)) ⌝ }
 {
-    let mut place = PLACES;
+    let later = set & !below(s);
+    later & up_to(k) == 0
+}
+
+// No answer comes up to k.
+fn no_reply(kind: Kind, answers: &[u64], i: usize, j: usize, k: usize) -> bool
+    requires { ⌜ (i < 64) × (j < 64) × (k < 64) × (64 ≤ length (now answers)) ⌝ }
+    ensures { λ r. ⌜ r ≡ unreplied (kindOf kind) i j (testOf (now (answers .entry))) k ⌝ }
+{
+    match kind {
+        Kind::Pref => true,
+        Kind::Init => true,
+        Kind::Anti => true,
+        Kind::Implies => true,
+        Kind::Follows => none_between(answers[j], j, k),
+        Kind::Triggers => none_between(answers[i], i, k),
+    }
+}
+
+// The number of the first unanswered place by i, then j, then k, of those before the best so far; that one where there is none.
+pub fn search(
+    kind: Kind,
+    first: &[u64],
+    third: &[u64],
+    answers: &[u64],
+    n: usize,
+    best: usize,
+) -> usize
+    requires { ⌜ (n ≤ 64) × (best ≤ 262144) ⌝ }
+    requires { ⌜ (64 ≤ length (now first)) × (64 ≤ length (now third)) × (64 ≤ length (now answers)) ⌝ }
+    ensures { λ r. ⌜ IsLeast best (numbered n (missed (kindOf kind) (testOf (now (first .entry))) (testOf (now (third .entry))) (testOf (now (answers .entry))))) r ⌝ }
+{
+    let rows = lesser(n, (best + 4095) / 4096);
+    let mut place = best;
     let mut i = 0;
-    'places: while i < n {
+    'places: while i < rows {
         let from = starts(kind, first[i], answers[i], i, n);
         let mut j = next(from, 0);
         while j < n {
-            let to = ends(kind, third, answers, i, j, n);
+            let to = ends(kind, third, i, j, n);
             let mut k = next(to, 0);
             while k < n {
-                if has(to, k) {
-                    place = i * 4096 + j * 64 + k;
+                if no_reply(kind, answers, i, j, k) {
+                    place = lesser(i * 4096 + j * 64 + k, best);
                     break 'places;
                 }
-                k += 1;
+                k = next(to, k + 1);
             }
             j = next(from, j + 1);
         }

@@ -1,8 +1,8 @@
 // What the check does for one clause.
+use crate::choice::choose;
 use crate::search::Kind;
 use stored::StoredClause;
 ghost use mathlib.Core.Path.{_≡_};
-ghost use mathlib.Core.Bool.{cond};
 ghost use Prim.Native.Nat.{_≤_};
 ghost use Rattle.places.specs.Task.{kindNumbered, taskOf};
 
@@ -32,12 +32,6 @@ fn kind_numbered(number: usize) -> Kind
         5 => Kind::Follows,
         _ => Kind::Triggers,
     }
-}
-
-pub fn choose(first: bool, a: usize, b: usize) -> usize
-    ensures { λ r. ⌜ r ≡ cond first a b ⌝ }
-{
-    if first { a } else { b }
 }
 
 pub fn task_of(d: StoredClause) -> Task

@@ -12,7 +12,7 @@ use Rattle.semantics.proofs.Tests.{test}
 use Rattle.stored.specs.Bytes.{inOrder}
 use Rattle.stored.specs.Tree.{pick}
 use Rattle.stored.proofs.Rules.{getD-inOrder, length-inOrder}
-use Rattle.checker.proofs.Copies.{copied-all}
+use Rattle.printed.proofs.Copies.{copied-all}
 use Rattle.printed.specs.declared.line.Line.{Line}
 use Rattle.printed.specs.Text.{decimalOf}
 use Rattle.printed.specs.Line.{lineOf, Grown}

@@ -1,6 +1,8 @@
 -- The comparisons and symbols of the code as those of the meanings.
-use Prim.Native.Nat.{ℕ, _+_}
+use Prim.Native.Nat.{ℕ, _+_, _-_, _≤_, _<_}
 use mathlib.Core.Bool.{Bool}
+use mathlib.Core.Path.{_≡_}
+use lib.Dec.{leb, ltb}
 use Rattle.semantics.specs.Cycles.{countFrom}
 use Rattle.semantics.specs.Proposition.{bit}
 use Rattle.semantics.specs.Formula as formula
@@ -28,3 +30,12 @@ symbolOf Steady = formula.steady
 -- the cycles of [b,e] in a column, e itself counted if `last` is 1, compared with a number
 unfoldable pub countedTo : formula.Comparison → ℕ → ℕ → ℕ → ℕ → ℕ → Bool
 countedTo c column number last b e = formula.compared c (countFrom b (e + last) (bit column)) number
+
+-- cycle r is `number` after b, as far as the 64 cycles of a row go
+pub record After (b number r : ℕ) : Type 0 where
+  pub less : (e : ℕ) → b ≤ e → e < 64 → ltb e r ≡ ltb (e - b) number
+  pub most : (e : ℕ) → b ≤ e → e < 64 → leb e r ≡ leb (e - b) number
+
+-- a set that has the cycle e from b on exactly if e − b passes
+pub record Distant (c : formula.Comparison) (b number set : ℕ) : Type 0 where
+  pub passes : (e : ℕ) → b ≤ e → e < 64 → bit set e ≡ formula.compared c (e - b) number

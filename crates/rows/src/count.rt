@@ -5,10 +5,11 @@ ghost use Rattle.semantics.specs.Cycles.{countFrom, countIn};
 ghost use Rattle.semantics.specs.Proposition.{bit};
 ghost use Rattle.semantics.specs.Formula.{compared};
 ghost use Rattle.rows.specs.Row.{row};
-ghost use Rattle.rows.specs.Symbols.{comparisonOf, countedTo};
-use crate::mask::ALL;
+ghost use Rattle.rows.specs.Symbols.{comparisonOf, countedTo, After, Distant};
+use crate::mask::below;
 use crate::mask::cycles_from;
 use crate::mask::only;
+use crate::mask::up_to;
 
 // <, ≤, =, ≥, >
 pub enum Comparison {
@@ -62,12 +63,35 @@ fn counted(
     out
 }
 
+// The cycle `number` after b, or one past all where a row has none so late.
+fn cycle_after(b: usize, number: usize) -> usize
+    requires { ⌜ b < 64 ⌝ }
+    ensures { λ r. ⌜ After b number r ⌝ }
+{
+    if number < 64 { b + number } else { 128 }
+}
+
+// The cycles from b on, and others before it, whose distance from b passes.
+fn distant(comparison: Comparison, b: usize, number: usize) -> u64
+    requires { ⌜ b < 64 ⌝ }
+    ensures { λ r. ⌜ Distant (comparisonOf comparison) b number r ⌝ }
+{
+    let at = cycle_after(b, number);
+    match comparison {
+        Comparison::Below => below(at),
+        Comparison::AtMost => up_to(at),
+        Comparison::Equal => up_to(at) & !below(at),
+        Comparison::AtLeast => !below(at),
+        Comparison::Above => !up_to(at),
+    }
+}
+
 // The length of the interval.
 pub fn slen(comparison: Comparison, number: usize, b: usize, n: usize) -> u64
     requires { ⌜ (b < n) × (n ≤ 64) ⌝ }
     ensures { λ r. ⌜ r ≡ row n (λ b e. compared (comparisonOf comparison) (e - b) number) b ⌝ }
 {
-    counted(comparison, ALL, number, 0, b, n)
+    cycles_from(b, n) & distant(comparison, b, number)
 }
 
 // The cycles where the proposition holds, e counted.

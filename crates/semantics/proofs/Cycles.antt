@@ -129,24 +129,6 @@ count-past (suc m) n p l f =
           omega arith)
     ]
 
--- the length of an interval counts its cycles but the last
-pub count-all : (b e : ℕ) (p : ℕ → Bool) → ((i : ℕ) → i < e → p i ≡ true) → countFrom b e p ≡ e - b
-unfolding countFrom countBelow
-count-all b zero p f = omega arith
-count-all b (suc e) p f =
-    let h = count-all b e p (λ i l. f i (omega arith)) in
-    elim (test (leb b e)) [
-      | inl t ↦ (
-          let l = leb-true b e t in
-          let one : _≡_ {A = ℕ} (cond (leb b e && p e) 1 0) 1 =
-          ap (λ (x : Bool). cond x 1 0) (and-intro (leb b e) (p e) t (f e (omega arith))) in
-          omega arith)
-      | inr t ↦ (
-          let l = leb-false b e t in
-          let none : _≡_ {A = ℕ} (cond (leb b e && p e) 1 0) 0 = ap (λ (x : Bool). cond (x && p e) 1 0) t in
-          omega arith)
-    ]
-
 -- exactly one cycle passes
 pub record One (b e : ℕ) (p : ℕ → Bool) : Type 0 where
   pub at : ℕ

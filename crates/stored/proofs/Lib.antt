@@ -1,9 +1,11 @@
 -- Laws of the definitions in specs/, for this crate and the crates above.
 pub mod Rules
 pub mod Made
+pub mod Entries
 pub mod Tree
 pub mod Reach
 pub mod Accepted
+pub mod Columns
 pub mod Answer
 pub mod Written
 pub mod Emitted

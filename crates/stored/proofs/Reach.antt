@@ -9,8 +9,7 @@ use native.Mathlib.Omega.{arith}
 use borrow.Author.Tests.{ltb-true, ltb-false, eqb-true, eqb-false, eq-eqb}
 use lib.Bits.{or-zero-l, or-zero-r, or-lt}
 use lib.Dec.{eqb, ltb}
-use lib.ListN.{length, getD, set, replicate, List·getD-eq-default}
-use lib.Seq.{getD-set-same, getD-set-other, ext-getD}
+use lib.ListN.{getD, List·getD-eq-default}
 use Rattle.semantics.specs.Proposition.{Proposition, bit}
 use Rattle.semantics.specs.Formula.{Formula}
 use Rattle.semantics.specs.Placement.{Names, listed}
@@ -21,8 +20,8 @@ use Rattle.stored.specs.Node.{requirementSorts, sortOf, qUse, aUse, bUse
 use Rattle.stored.specs.Tree.{earlier, propositionOp, formulaOp, propositionOf, propositionAt, formulaOf, formulaAt}
 use Rattle.stored.specs.Reach.{joint, nameMask, fieldReach, nodeReach, reachStep, reachAt, covers, reachTable, entryOf}
 use Rattle.semantics.proofs.Tests.{test, and-left, and-right}
-use Rattle.stored.proofs.Rules.{asked, every-at, every-number, length-inOrder, getD-inOrder}
-use Rattle.stored.proofs.Made.{earlier-at, earlier-not, earlier-wider, made-step}
+use Rattle.stored.proofs.Rules.{asked, every-at, every-number, getD-inOrder}
+use Rattle.stored.proofs.Made.{earlier-at, made-step}
 use Rattle.stored.proofs.Tree.{operands, proposition-cases, formula-cases, proposition-law, formula-law, is-proposition, is-formula}
 
 -- tests of Bools and of masks below 8
@@ -338,36 +337,11 @@ bit-listed mask h = fun-ext (λ u. go u (ltb u 3) refl)
     go u true e = refl
     go u false e = sym (bit-above mask u h (ltb-false u 3 e))
 
--- a table of masks that is filled from the first node on
-getD-zeros : (n k : ℕ) → _≡_ {A = ℕ} (getD (replicate n 0) k 0) 0
-getD-zeros zero k = refl
-getD-zeros (suc n) zero = refl
-getD-zeros (suc n) (suc k) = getD-zeros n k
-
-pub table-start : (t : ℕ → ℕ) (k : ℕ) → getD (replicate 64 0) k 0 ≡ earlier 0 0 t k
-table-start t k = getD-zeros 64 k ∙ sym (earlier-not 0 0 t k (omega arith))
-
-pub table-next : (x : ℕ → Node) (table : List ℕ) (i v : ℕ) → i < length table → ((k : ℕ) → getD table k 0 ≡ earlier i 0 (reachAt x) k) → v ≡ nodeReach (entryOf table) (x i) → (k : ℕ) → getD (set table i v) k 0 ≡ earlier (i + 1) 0 (reachAt x) k
+-- the mask of the next node, from the table of those before it
+pub table-next : (x : ℕ → Node) (table : List ℕ) (i v : ℕ) → ((k : ℕ) → getD table k 0 ≡ earlier i 0 (reachAt x) k)
+    → v ≡ nodeReach (entryOf table) (x i) → v ≡ reachAt x i
 unfolding entryOf
-table-next x table i v h before e k = elim (test (eqb k i)) [ inl same ↦ new (eqb-true k i same) | inr other ↦ old (eqb-false k i other) ]
-  where
-    new : k ≡ i → getD (set table i v) k 0 ≡ earlier (i + 1) 0 (reachAt x) k
-    new same =
-        rw same
-        (getD-set-same table i v 0 h
-        ∙ e
-        ∙ ap (λ (r : ℕ → ℕ). nodeReach r (x i)) (fun-ext before)
-        ∙ sym (reach-step x i)
-        ∙ sym (earlier-at (i + 1) 0 (reachAt x) i (omega arith)))
-
-    old : (k ≡ i → ⊥) → getD (set table i v) k 0 ≡ earlier (i + 1) 0 (reachAt x) k
-    old other = getD-set-other table i k v 0 other ∙ before k ∙ earlier-wider i 0 (reachAt x) k other
-
-pub table-done : (x : ℕ → Node) (n : ℕ) (table : List ℕ) → length table ≡ 64 → ((k : ℕ) → getD table k 0 ≡ earlier n 0 (reachAt x) k) → table ≡ reachTable x n
-unfolding reachTable
-table-done x n table long all =
-    ext-getD 0 table (inOrder 64 (earlier n 0 (reachAt x))) (long ∙ sym (length-inOrder 64 (earlier n 0 (reachAt x))))
-    (λ k h. let less : k < 64 = omega arith in all k ∙ sym (getD-inOrder 64 (earlier n 0 (reachAt x)) k 0 less))
+table-next x table i v before e = e ∙ ap (λ (r : ℕ → ℕ). nodeReach r (x i)) (fun-ext before) ∙ sym (reach-step x i)
 
 pub table-at : (x : ℕ → Node) (n i : ℕ) → n ≤ 64 → i < n → entryOf (reachTable x n) i ≡ reachAt x i
 unfolding reachTable entryOf

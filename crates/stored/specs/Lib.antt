@@ -6,5 +6,6 @@ pub mod Reach
 pub mod Clause
 pub mod Sheet
 pub mod Trace
+pub mod Columns
 pub mod Written
 pub mod Emitted

@@ -4,6 +4,13 @@ ghost use Prim.Native.Nat.{_+_, _≤_, _<_};
 ghost use lib.ListN.{length, getD};
 ghost use Rattle.stored.specs.Bytes.{word, framedFrom};
 
+// A byte as a number. Tables of constants are bytes, since a constant is laid down anew wherever it is used.
+pub fn wide(x: u8) -> usize
+    ensures { λ r. ⌜ r ≡ x ⌝ }
+{
+    x as usize
+}
+
 pub fn byte(s: &[u8], k: usize) -> usize
     requires { ⌜ k < length (now s) ⌝ }
     ensures { λ r. ⌜ (r ≡ getD (now (s .entry)) k 0) × (r < 256) ⌝ }

@@ -1,6 +1,7 @@
 // The clauses of a kind 1 sheet: their fields, and rules 8 and 9.
 use crate::StoredClause;
 use crate::bytes;
+use crate::bytes::wide;
 use crate::masks;
 use crate::nodes;
 ghost use mathlib.Core.Path.{_≡_};
@@ -12,7 +13,7 @@ ghost use Rattle.stored.specs.Reach.{reachTable};
 ghost use Rattle.stored.specs.Clause.{storedAt, partsUsed, partRight, clauseRight, clauseRightAt, partCovered, clauseCovered, clauseCoveredAt};
 
 // How many parts each type uses; there is no type 0.
-const PARTS: [usize; 7] = [0, 1, 2, 1, 2, 3, 3];
+const PARTS: [u8; 7] = [0, 1, 2, 1, 2, 3, 3];
 
 // Clause k of a clause part.
 pub fn stored_at(clauses: &[u8], k: usize) -> StoredClause
@@ -44,7 +45,7 @@ pub fn stored_at(clauses: &[u8], k: usize) -> StoredClause
 pub fn parts_used(kind: usize) -> usize
     ensures { λ r. ⌜ r ≡ partsUsed kind ⌝ }
 {
-    if kind < 7 { PARTS[kind] } else { 0 }
+    if kind < 7 { wide(PARTS[kind]) } else { 0 }
 }
 
 // A used root is a formula node; an unused root and mask are zero.

@@ -1,5 +1,6 @@
 // The names that nodes reach, as masks.
 use crate::Node;
+use crate::bytes::wide;
 use crate::nodes;
 ghost use mathlib.Core.Path.{_≡_};
 ghost use Prim.Native.Nat.{_*_, _≤_};
@@ -8,12 +9,12 @@ ghost use Rattle.stored.specs.Node.{nodeAt};
 ghost use Rattle.stored.specs.Reach.{nameMask, fieldReach, nodeReach, entryOf, reachTable};
 
 // Name u as a mask.
-const NAMES: [usize; 3] = [1, 2, 4];
+const NAMES: [u8; 3] = [1, 2, 4];
 
-fn name_mask(u: usize) -> usize
+pub fn name_mask(u: usize) -> usize
     ensures { λ r. ⌜ r ≡ nameMask u ⌝ }
 {
-    if u < 3 { NAMES[u] } else { 0 }
+    if u < 3 { wide(NAMES[u]) } else { 0 }
 }
 
 // Entry i of a table, 0 past its end.

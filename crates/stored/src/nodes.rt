@@ -1,6 +1,7 @@
 // The nodes of a kind 1 sheet: their fields, and rules 6 and 7.
 use crate::Node;
 use crate::bytes;
+use crate::bytes::wide;
 ghost use mathlib.Core.Path.{_≡_};
 ghost use Prim.Native.Nat.{_+_, _*_, _≤_, _<_};
 ghost use lib.ListN.{length};
@@ -8,7 +9,7 @@ ghost use Rattle.stored.specs.Bytes.{everyBelow};
 ghost use Rattle.stored.specs.Node.{nodeAt, requirementSorts, sortOf, qUse, aUse, bUse, fieldRight, fieldsRight, nodeRight, sortBelow, operandRight, operandsRight, isFormulaNode};
 
 // The sort of each op in kind 1: 0 none, 1 proposition, 2 formula.
-const SORTS: [usize; 32] = [
+const SORTS: [u8; 32] = [
     0,
     1,
     1,
@@ -45,7 +46,7 @@ const SORTS: [usize; 32] = [
 
 // What each op uses field q for, and then a and b: 0 nothing, 1 a signal, 2 a name, 3 a comparison, 4 a symbol, 5 two names,
 // 6 a number, 7 a proposition node, 8 a formula node.
-const Q_USES: [usize; 32] = [
+const Q_USES: [u8; 32] = [
     0,
     0,
     0,
@@ -80,7 +81,7 @@ const Q_USES: [usize; 32] = [
     0,
 ];
 
-const A_USES: [usize; 32] = [
+const A_USES: [u8; 32] = [
     0,
     0,
     0,
@@ -115,7 +116,7 @@ const A_USES: [usize; 32] = [
     8,
 ];
 
-const B_USES: [usize; 32] = [
+const B_USES: [u8; 32] = [
     0,
     0,
     0,
@@ -153,25 +154,25 @@ const B_USES: [usize; 32] = [
 pub fn sort_of(op: usize) -> usize
     ensures { λ r. ⌜ r ≡ sortOf requirementSorts op ⌝ }
 {
-    if op < 32 { SORTS[op] } else { 0 }
+    if op < 32 { wide(SORTS[op]) } else { 0 }
 }
 
 pub fn q_use(op: usize) -> usize
     ensures { λ r. ⌜ r ≡ qUse op ⌝ }
 {
-    if op < 32 { Q_USES[op] } else { 0 }
+    if op < 32 { wide(Q_USES[op]) } else { 0 }
 }
 
 pub fn a_use(op: usize) -> usize
     ensures { λ r. ⌜ r ≡ aUse op ⌝ }
 {
-    if op < 32 { A_USES[op] } else { 0 }
+    if op < 32 { wide(A_USES[op]) } else { 0 }
 }
 
 pub fn b_use(op: usize) -> usize
     ensures { λ r. ⌜ r ≡ bUse op ⌝ }
 {
-    if op < 32 { B_USES[op] } else { 0 }
+    if op < 32 { wide(B_USES[op]) } else { 0 }
 }
 
 // Node i of a node part.
@@ -191,13 +192,15 @@ pub fn node_at(nodes: &[u8], i: usize) -> Node
 fn field_ok(s: usize, m: usize, what: usize, v: usize) -> bool
     ensures { λ r. ⌜ r ≡ fieldRight s m what v ⌝ }
 {
-    let unused = (what != 0) | (v == 0);
-    let signal = (what != 1) | (v < s);
-    let name = (what != 2) | (v < m);
-    let comparison = (what != 3) | (v < 5);
-    let symbol = (what != 4) | (v < 8);
-    let pair = (what != 5) | ((v / 16 < m) & (v % 16 < m));
-    unused & (signal & (name & (comparison & (symbol & pair))))
+    match what {
+        0 => v == 0,
+        1 => v < s,
+        2 => v < m,
+        3 => v < 5,
+        4 => v < 8,
+        5 => (v / 16 < m) & (v % 16 < m),
+        _ => true,
+    }
 }
 
 fn fields_ok(s: usize, m: usize, x: Node) -> bool

@@ -1,11 +1,14 @@
 // A trace: its frame, its cycles, and the order of its refusals.
 use crate::TraceAnswer;
 use crate::bytes;
+use rows::mask::has;
+use rows::mask::only;
 ghost use mathlib.Core.Path.{_≡_};
 ghost use Prim.Native.Nat.{_+_, _*_, _≤_, _<_, _^_};
 ghost use lib.Dec.{ltb};
 ghost use lib.ListN.{length};
 ghost use Rattle.stored.specs.Bytes.{everyBelow};
+ghost use Rattle.stored.specs.Columns.{signalColumn, columnsOf};
 ghost use Rattle.stored.specs.Trace.{cycleAt, cycleRight, traceAnswer, traceNumber};
 
 // No bit from s up is set.
@@ -79,4 +82,41 @@ pub fn trace_number(answer: TraceAnswer) -> usize
         TraceAnswer::Cycles(_) => 0,
         TraceAnswer::Refused(number) => number,
     }
+}
+
+// How many columns a set has: sixteen for the signals, then three for the names.
+pub const COLUMNS: usize = 19;
+
+// The column of name 0.
+pub const FIRST_NAME: usize = 16;
+
+// The cycles at which signal k is set.
+fn signal_column(trace: &[u8], n: usize, k: usize) -> u64
+    requires { ⌜ (k < 64) × (n ≤ 64) × (2 * n + 4 ≤ length (now trace)) ⌝ }
+    ensures { λ r. ⌜ r ≡ signalColumn (now (trace .entry)) n k ⌝ }
+{
+    let mut out: u64 = 0;
+    let mut t = 0;
+    while t < n {
+        let signals = cycle_at(trace, t) as u64;
+        if has(signals, k) {
+            out |= only(t);
+        }
+        t += 1;
+    }
+    out
+}
+
+// The columns of a trace of s signals and n cycles; no name is marked.
+pub fn columns(trace: &[u8], s: usize, n: usize) -> [u64; COLUMNS]
+    requires { ⌜ (s ≤ 16) × (n ≤ 64) × (2 * n + 4 ≤ length (now trace)) ⌝ }
+    ensures { λ r. ⌜ r ≡ columnsOf s n (now (trace .entry)) ⌝ }
+{
+    let mut columns = [0u64; COLUMNS];
+    let mut k = 0;
+    while k < s {
+        columns[k] = signal_column(trace, n, k);
+        k += 1;
+    }
+    columns
 }

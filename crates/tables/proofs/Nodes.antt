@@ -58,7 +58,7 @@ node-kept s m x h =
       a-field = field-kept s m (aUse (x .op)) (x .a) (and-left (fieldRight s m (aUse (x .op)) (x .a)) _ r₂);
     }
 
-module _ {nodes : List ℕ} {count : ℕ} {trace : List ℕ} {n p0 p1 p2 : ℕ} {words : List ℕ} (g : Given nodes count trace n p0 p1 p2 words) where
+module _ {nodes : List ℕ} {count n : ℕ} {columns words : List ℕ} (g : Given nodes count n columns words) where
   pub nodes-kept : NodesKept (g .signals) (g .names) count (nodeAt nodes)
   unfolding nodeRight
   nodes-kept =

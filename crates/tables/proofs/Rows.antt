@@ -1,10 +1,9 @@
 -- Laws of rows in the words.
 use Prim.Native.Nat.{ℕ, _+_, _-_, _*_, _≤_, _<_}
-use mathlib.Core.Bool.{Bool, cond, _&&_, _||_}
+use mathlib.Core.Bool.{Bool, _&&_, _||_}
 use mathlib.Core.List.{List}
 use mathlib.Core.Path.{_≡_, sym, _∙_, ap}
 use native.Mathlib.Omega.{arith}
-use borrow.Author.Tests.{le-ltb, lt-ltb}
 use lib.Dec.{ltb, eqb}
 use lib.ListN.{getD, take, drop}
 use lib.Seq.{getD-take, getD-drop}
@@ -14,9 +13,9 @@ use Rattle.semantics.proofs.Cycles.{below-cong}
 use Rattle.rows.specs.Row.{joined, starred}
 use Rattle.rows.proofs.Rows.{word-ext}
 use Rattle.stored.specs.declared.Node.{Node}
-use Rattle.stored.specs.Tree.{FormulaOp, formulaOp}
+use Rattle.stored.specs.Tree.{formulaOp}
 use Rattle.tables.specs.Table.{rowAt}
-use Rattle.tables.specs.Step.{rowOf, lineOf}
+use Rattle.tables.specs.Step.{rowOf}
 
 -- joins go by the first 64 words alone
 pub joined-ext : (set : ℕ) (v w : ℕ → ℕ) → ((i : ℕ) → i < 64 → v i ≡ w i) → joined set v ≡ joined set w
@@ -46,14 +45,3 @@ part-row words i from to e g b l =
 pub row-told : (x : Node) (k n first second : ℕ) (words : List ℕ) (own b v : ℕ) → x .op ≡ k
     → v ≡ rowOf (formulaOp k) x n first second words own b → v ≡ rowOf (formulaOp (x .op)) x n first second words own b
 row-told x k n first second words own b v e f = f ∙ ap (λ (j : ℕ). rowOf (formulaOp j) x n first second words own b) (sym e)
-
-pub line-inside : (o : FormulaOp) (x : Node) (n first second : ℕ) (words : List ℕ) (own b v : ℕ) → b < n
-    → v ≡ rowOf o x n first second words own b → v ≡ lineOf o x n first second words own b
-unfolding lineOf
-line-inside o x n first second words own b v h e =
-    e ∙ ap (λ (c : Bool). cond c (rowOf o x n first second words own b) 0) (sym (lt-ltb b n h))
-
-pub line-past : (o : FormulaOp) (x : Node) (n first second : ℕ) (words : List ℕ) (own b : ℕ) → n ≤ b → 0 ≡ lineOf o x n first second words own b
-unfolding lineOf
-line-past o x n first second words own b h =
-    ap (λ (c : Bool). cond c (rowOf o x n first second words own b) 0) (sym (le-ltb b n h))

@@ -8,7 +8,6 @@ use native.Mathlib.Omega.{arith}
 use borrow.Author.Tests.{ltb-true, ltb-false, leb-true, eqb-true, eqb-false, eq-eqb, le-leb}
 use lib.Dec.{leb, ltb, eqb}
 use lib.ListN.{List·getD-eq-default}
-use Rattle.semantics.specs.Placement.{Placement}
 use Rattle.stored.specs.declared.Node.{Node}
 use Rattle.stored.specs.Bytes.{everyBelow}
 use Rattle.stored.specs.Node.{requirementSorts, sortOf, aUse, bUse, qUse}
@@ -101,10 +100,10 @@ pub pair-right : (k : ℕ) → isPair k ≡ true → bUse k ≡ 8
 unfolding bUse
 pair-right = pair-told (λ k. bUse k ≡ 8) refl refl refl
 
-pub pair-first : (k : ℕ) (x : Node) (trace : List ℕ) (n : ℕ) (ν : Placement) (words : List ℕ) → isPair k ≡ true → 0 ≡ firstColumn k x trace n ν words
+pub pair-first : (k : ℕ) (x : Node) (columns words : List ℕ) → isPair k ≡ true → 0 ≡ firstColumn k x columns words
 unfolding firstColumn aUse qUse
-pair-first k x trace n ν words = pair-told (λ k. 0 ≡ firstColumn k x trace n ν words) refl refl refl k
+pair-first k x columns words = pair-told (λ k. 0 ≡ firstColumn k x columns words) refl refl refl k
 
-pub pair-second : (k : ℕ) (x : Node) (n : ℕ) (ν : Placement) → isPair k ≡ true → 0 ≡ secondColumn k x n ν
+pub pair-second : (k : ℕ) (x : Node) (columns : List ℕ) → isPair k ≡ true → 0 ≡ secondColumn k x columns
 unfolding secondColumn qUse
-pair-second k x n ν = pair-told (λ k. 0 ≡ secondColumn k x n ν) refl refl refl k
+pair-second k x columns = pair-told (λ k. 0 ≡ secondColumn k x columns) refl refl refl k

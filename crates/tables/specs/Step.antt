@@ -6,13 +6,12 @@ use mathlib.Core.Path.{_≡_}
 use lib.Bits.{bitAnd, bitOr}
 use lib.Dec.{leb, ltb, eqb}
 use Rattle.semantics.specs.Cycles.{someIn, everyFrom, everyIn, countFrom, countIn}
-use Rattle.semantics.specs.Proposition.{signal, name, bit}
+use Rattle.semantics.specs.Proposition.{bit}
 use Rattle.semantics.specs.Formula.{compared, drawnOn}
-use Rattle.semantics.specs.Placement.{Placement, marks}
 use Rattle.rows.specs.Row.{word, row, joined, starred}
 use Rattle.stored.specs.declared.Node.{Node}
+use Rattle.stored.specs.Columns.{firstName, columnAt}
 use Rattle.stored.specs.Node.{aUse, bUse, qUse}
-use Rattle.stored.specs.Trace.{cycleAt}
 use Rattle.stored.specs.Tree.{PropositionOp, neverOp, alwaysOp, signalOp, nameOp, negatedOp, bothOp, eitherOp, noProposition, FormulaOp, pointOp, stretchOp, wholeOp, unitOp, chopOp, conjunctionOp, disjunctionOp, starOp, slenOp, scountOp, sdurOp, drawnOp, atOp, gapOp, negationOp, forSomeOp, noFormula, comparisonOf, symbolOf}
 use Rattle.tables.specs.Table.{rowAt}
 
@@ -29,35 +28,28 @@ pub record Usable (x : Node) (before : ℕ) : Type 0 where
   pub first-name : qUse (x .op) ≡ 5 → x .q / 16 < 3
   pub second-name : qUse (x .op) ≡ 5 → x .q % 16 < 3
 
--- the cycles of a trace at which signal k is set, and those on which name u stands
-unfoldable pub signalColumn : List ℕ → ℕ → ℕ → ℕ
-signalColumn trace n k = word n (λ t. bit (cycleAt trace t) k)
-
-unfoldable pub nameColumn : Placement → ℕ → ℕ → ℕ
-nameColumn ν n u = word n (λ t. marks ν u t)
-
 -- the column of a proposition node
-unfoldable pub columnOf : PropositionOp → Node → List ℕ → ℕ → Placement → List ℕ → ℕ
-columnOf neverOp x trace n ν words = 0
-columnOf alwaysOp x trace n ν words = word 64 (λ t. ltb t n)
-columnOf signalOp x trace n ν words = signalColumn trace n (x .a)
-columnOf nameOp x trace n ν words = nameColumn ν n (x .a)
-columnOf negatedOp x trace n ν words = bitAnd (word 64 (λ t. ltb t n)) (2 ^ 64 - 1 - rowAt words (x .a) 0)
-columnOf bothOp x trace n ν words = bitAnd (rowAt words (x .a) 0) (rowAt words (x .b) 0)
-columnOf eitherOp x trace n ν words = bitOr (rowAt words (x .a) 0) (rowAt words (x .b) 0)
-columnOf noProposition x trace n ν words = 0
+unfoldable pub columnOf : PropositionOp → Node → ℕ → List ℕ → List ℕ → ℕ
+columnOf neverOp x n columns words = 0
+columnOf alwaysOp x n columns words = word 64 (λ t. ltb t n)
+columnOf signalOp x n columns words = columnAt columns (x .a)
+columnOf nameOp x n columns words = columnAt columns (firstName + x .a)
+columnOf negatedOp x n columns words = bitAnd (word 64 (λ t. ltb t n)) (2 ^ 64 - 1 - rowAt words (x .a) 0)
+columnOf bothOp x n columns words = bitAnd (rowAt words (x .a) 0) (rowAt words (x .b) 0)
+columnOf eitherOp x n columns words = bitOr (rowAt words (x .a) 0) (rowAt words (x .b) 0)
+columnOf noProposition x n columns words = 0
 
 -- the columns that a formula node is over: its proposition, signal or name, and the second name of a gap
-unfoldable pub firstColumn : ℕ → Node → List ℕ → ℕ → Placement → List ℕ → ℕ
-firstColumn op x trace n ν words =
+unfoldable pub firstColumn : ℕ → Node → List ℕ → List ℕ → ℕ
+firstColumn op x columns words =
     cond (eqb (aUse op) 7)
     (rowAt words (x .a) 0)
     (cond (eqb (aUse op) 1)
-    (signalColumn trace n (x .a))
-    (cond (eqb (aUse op) 2) (nameColumn ν n (x .a)) (cond (eqb (qUse op) 5) (nameColumn ν n (x .q / 16)) 0)))
+    (columnAt columns (x .a))
+    (cond (eqb (aUse op) 2) (columnAt columns (firstName + x .a)) (cond (eqb (qUse op) 5) (columnAt columns (firstName + x .q / 16)) 0)))
 
-unfoldable pub secondColumn : ℕ → Node → ℕ → Placement → ℕ
-secondColumn op x n ν = cond (eqb (qUse op) 5) (nameColumn ν n (x .q % 16)) 0
+unfoldable pub secondColumn : ℕ → Node → List ℕ → ℕ
+secondColumn op x columns = cond (eqb (qUse op) 5) (columnAt columns (firstName + x .q % 16)) 0
 
 -- chop, and, or: over the rows of two formulas
 unfoldable pub isPair : ℕ → Bool
@@ -85,7 +77,3 @@ rowOf gapOp x n first second words own b =
 rowOf negationOp x n first second words own b = 0
 rowOf forSomeOp x n first second words own b = 0
 rowOf noFormula x n first second words own b = 0
-
--- the same, and 0 past the last cycle
-unfoldable pub lineOf : FormulaOp → Node → ℕ → ℕ → ℕ → List ℕ → ℕ → ℕ → ℕ
-lineOf o x n first second words own b = cond (ltb b n) (rowOf o x n first second words own b) 0

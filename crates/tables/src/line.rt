@@ -5,7 +5,7 @@ ghost use Prim.Native.Nat.{_+_, _*_, _≤_, _<_};
 ghost use lib.ListN.{length};
 ghost use Rattle.rows.specs.Symbols as symbols;
 ghost use Rattle.stored.specs.Tree.{comparisonOf, symbolOf, formulaOp};
-ghost use Rattle.tables.specs.Step.{Usable, isPair, rowOf, lineOf};
+ghost use Rattle.tables.specs.Step.{Usable, isPair, rowOf};
 use crate::words::joined_at;
 use crate::words::row_at;
 use crate::words::starred_at;
@@ -80,8 +80,8 @@ fn starred_row(
     requires { ⌜ (x .op ≡ 23) × (b < 64) × (64 * own + 64 ≤ length (now words)) ⌝ }
     ensures { λ r. ⌜ r ≡ rowOf (formulaOp (x .op)) x n first second (now (words .entry)) own b ⌝ }
 {
-    let left = row_at(words, x.a, b);
-    starred_at(left, words, own, b)
+    let links = row_at(words, x.a, b);
+    starred_at(links, words, own, b)
 }
 
 // slen, scount and sdur.
@@ -107,15 +107,12 @@ pub fn is_pair(op: usize) -> bool
     (20 <= op) & (op < 23)
 }
 
-// Row b of a chop, an and or an or, 0 past the last cycle.
-pub fn pair_line(x: Node, n: usize, words: &[u64], own: usize, b: usize) -> u64
+// Row b of a chop, an and or an or.
+pub fn pair_row(x: Node, n: usize, words: &[u64], own: usize, b: usize) -> u64
     requires { ⌜ Usable x own ⌝ }
-    requires { ⌜ (isPair (x .op) ≡ true) × (n ≤ 64) × (64 * own + 64 ≤ length (now words)) ⌝ }
-    ensures { λ r. ⌜ r ≡ lineOf (formulaOp (x .op)) x n 0 0 (now (words .entry)) own b ⌝ }
+    requires { ⌜ (isPair (x .op) ≡ true) × (b < n) × (n ≤ 64) × (64 * own + 64 ≤ length (now words)) ⌝ }
+    ensures { λ r. ⌜ r ≡ rowOf (formulaOp (x .op)) x n 0 0 (now (words .entry)) own b ⌝ }
 {
-    if n <= b {
-        return 0;
-    }
     let op = x.op;
     let other = x.b;
     let left = row_at(words, x.a, b);
@@ -126,8 +123,8 @@ pub fn pair_line(x: Node, n: usize, words: &[u64], own: usize, b: usize) -> u64
     }
 }
 
-// Row b of a symbol, a mark or a gap, 0 past the last cycle.
-pub fn drawing_line(
+// Row b of a symbol, a mark or a gap.
+pub fn drawing_row(
     x: Node,
     n: usize,
     first: u64,
@@ -137,12 +134,9 @@ pub fn drawing_line(
     b: usize,
 ) -> u64
     requires { ⌜ Usable x own ⌝ }
-    requires { ⌜ (27 ≤ x .op) × (x .op < 30) × (n ≤ 64) ⌝ }
-    ensures { λ r. ⌜ r ≡ lineOf (formulaOp (x .op)) x n first second (now (words .entry)) own b ⌝ }
+    requires { ⌜ (27 ≤ x .op) × (x .op < 30) × (b < n) × (n ≤ 64) ⌝ }
+    ensures { λ r. ⌜ r ≡ rowOf (formulaOp (x .op)) x n first second (now (words .entry)) own b ⌝ }
 {
-    if n <= b {
-        return 0;
-    }
     let op = x.op;
     let fewest = x.a;
     let most = x.b;
@@ -153,16 +147,21 @@ pub fn drawing_line(
     }
 }
 
-// Row b of a bracket, a star or a count, 0 past the last cycle.
-pub fn line(x: Node, n: usize, first: u64, second: u64, words: &[u64], own: usize, b: usize) -> u64
+// Row b of a bracket, a star or a count.
+pub fn plain_row(
+    x: Node,
+    n: usize,
+    first: u64,
+    second: u64,
+    words: &[u64],
+    own: usize,
+    b: usize,
+) -> u64
     requires { ⌜ Usable x own ⌝ }
-    requires { ⌜ (16 ≤ x .op) × (x .op < 27) × (isPair (x .op) ≡ false) × (n ≤ 64) × (64 * own + 64 ≤ length (now words)) ⌝ }
-    ensures { λ r. ⌜ r ≡ lineOf (formulaOp (x .op)) x n first second (now (words .entry)) own b ⌝ }
+    requires { ⌜ (16 ≤ x .op) × (x .op < 27) × (isPair (x .op) ≡ false) × (b < n) × (n ≤ 64) × (64 * own + 64 ≤ length (now words)) ⌝ }
+    ensures { λ r. ⌜ r ≡ rowOf (formulaOp (x .op)) x n first second (now (words .entry)) own b ⌝ }
 {
     let op = x.op;
-    if n <= b {
-        return 0;
-    }
     if op < 20 {
         return shape_row(x, n, first, second, words, own, b);
     }

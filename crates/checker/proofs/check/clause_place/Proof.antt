@@ -1,32 +1,18 @@
 -- `checker::check::clause_place` meets its contract.
-use mathlib.Core.Path.{_≡_, sym, ap, subst, _∙_}
-use native.Mathlib.Omega.{arith}
-use Rattle.stored.specs.Clause.{storedAt}
-use Rattle.places.specs.declared.task.Task.{Task}
-use Rattle.places.specs.Task.{taskOf}
-use Rattle.places.specs.Laid.{Formulas}
-use Rattle.checker.proofs.Clauses.{clause-least}
 use borrow.Author.Needs.{needs}
+use mathlib.Core.Path.{refl}
+use native.Mathlib.Omega.{arith}
+use Rattle.checker.proofs.Clauses.{clause-walkable, clause-least}
 use Rattle.checker.proofs.check.clause_place.Statement.{statement}
 use Rattle.checker.proofs.check.clause_place.Tie as tie
 
-stored-at-requires : tie.Need-stored-at-requires
-stored-at-requires c κs = search needs
-
 task-of-requires : tie.Need-task-of-requires
-task-of-requires c κs =
-    let q = c .before .before .before .before .before .before .before .pre in
-    let e = c .stored-at .ensures in
-    rw e (q .1 .1 .kind-least, q .1 .1 .kind-most)
+task-of-requires c κs = omega (arith, c .before .before .before .before .before .pre .1 .0 .kind-least, c .before .before .before .before .before .pre .1 .0 .kind-most)
 
-places0-requires : tie.Need-places0-requires
-places0-requires c κs =
-    let q = c .before .before .before .before .before .before .before .before .before .before .pre in
-    let a = c .before .before .before .before .before .before .before .before .before .before .args in
-    let e : c .before .before .task-of .result ≡ taskOf (storedAt (a .clauses .now) (a .k)) =
-    c .before .before .task-of .ensures ∙ ap taskOf (c .before .before .before .stored-at .ensures) in
-    let some = q .0 .ready .given .some-cycles in
-    (q .0, ((omega arith), (omega arith), (omega arith), subst (λ (t : Task). Formulas (a .nodes .now) (a .count) t) (sym e) (q .1 .1 .formulas)))
+walk-requires : tie.Need-walk-requires
+walk-requires c κs =
+    let p = c .before .before .before .before .before .before .before .before .before .pre in
+    (clause-walkable (p .0) (c .before .before .before .before .before .before .before .before .before .args .d) _ (c .before .before .before .task-of .ensures) (p .1 .0), p .1 .1)
 
 same-length : tie.Need-same-length
 same-length c = search needs
@@ -34,22 +20,16 @@ same-length c = search needs
 same-length-2 : tie.Need-same-length-2
 same-length-2 c = search needs
 
+same-length-3 : tie.Need-same-length-3
+same-length-3 c = search needs
+
 returns : tie.Need-returns
 returns c =
-    let q = c .before .before .before .before .before .before .before .before .before .before .before .before .before .before .before .pre in
-    let a = c .before .before .before .before .before .before .before .before .before .before .before .before .before .before .before .args in
-    let r = c .before .before .before .before .places0 in
-    let e : c .before .before .before .before .before .before .before .task-of .result ≡ taskOf (storedAt (a .clauses .now) (a .k)) =
-    c .before .before .before .before .before .before .before .task-of .ensures ∙ ap taskOf (c .before .before .before .before .before .before .before .before .stored-at .ensures) in
-    (r .ensures .0, clause-least (storedAt (a .clauses .now) (a .k)) (c .before .before .before .before .before .before .before .task-of .result) (r .result) e (q .0) (q .1 .1) (r .ensures .1))
+    let p = c .before .before .before .before .before .before .before .before .before .before .before .before .before .before .before .before .pre in
+    let r = c .before .before .before .before .before .before .walk .ensures in
+    (r .0, (r .1 .0, clause-least (p .0) (c .before .before .before .before .before .before .before .before .before .before .before .before .before .before .before .before .args .d) _ (c .before .before .before .before .before .before .before .before .before .before .task-of .ensures) (p .1 .0) _ (r .1 .1 .places refl)))
 
 pub clause-place-spec : {M : Type 1} → statement M
 clause-place-spec =
     tie.close
-    (tie.spec
-    stored-at-requires
-    task-of-requires
-    places0-requires
-    same-length
-    same-length-2
-    returns)
+    (tie.spec task-of-requires walk-requires same-length same-length-2 same-length-3 returns)

@@ -1,31 +1,33 @@
 -- `checker::table::copy_rows` meets its contract.
-use mathlib.Core.Path.{_≡_, refl, _∙_}
-use native.Mathlib.Omega.{arith}
-use Prim.Native.Nat.{ℕ, _-_, _≤_, _<_}
 use borrow.Author.Needs.{needs}
+use mathlib.Core.Path.{_≡_, refl, ap, _∙_}
+use native.Mathlib.Omega.{arith}
+use Prim.Native.Nat.{ℕ, _-_, _≤_}
 use lib.ListN.{length, getD, length-set}
+use Rattle.stored.specs.Tree.{earlier}
+use Rattle.stored.proofs.Entries.{entries-none, entries-next, entries-all}
 use Rattle.tables.specs.Table.{rowAt}
-use Rattle.checker.proofs.Copies.{copied-more, copied-all}
 use Rattle.checker.proofs.table.copy_rows.Statement.{statement}
 use Rattle.checker.proofs.table.copy_rows.Tie as tie
 
 abbrev Inv-loop : tie.InvT-loop
-Inv-loop words i rows₀ b₀ rows b = (b ≤ 64) × (length rows ≡ 64) × ((k : ℕ) → k < b → getD rows k 0 ≡ rowAt words i k)
+Inv-loop words i n rows₀ b₀ rows b =
+    (b ≤ n) × (length rows ≡ 64) × ((k : ℕ) → getD rows k 0 ≡ earlier b 0 (rowAt words i) k)
 
 abbrev μ-loop : tie.MeasureT-loop
-μ-loop words i rows₀ b₀ rows b = 64 - b
+μ-loop words i n rows₀ b₀ rows b = n - b
 
 loop-holds : tie.Need-loop-holds Inv-loop μ-loop
-loop-holds c = (omega arith, refl, (λ k l. absurd (omega arith)))
+loop-holds c = (omega arith, refl, entries-none _ 64)
 
 row-at-requires : tie.Need-row-at-requires Inv-loop μ-loop
 row-at-requires c κs = search needs
 
 mul-rows : tie.Need-mul-rows Inv-loop μ-loop
-mul-rows c = omega arith
+mul-rows c = search needs
 
 array-write-rows : tie.Need-array-write-rows Inv-loop μ-loop
-array-write-rows c = omega arith
+array-write-rows c = search needs
 
 add-b : tie.Need-add-b Inv-loop μ-loop
 add-b c = search needs
@@ -36,17 +38,14 @@ loop-less c = search needs
 loop-again : tie.Need-loop-again Inv-loop μ-loop
 loop-again c =
     let at = c .before .before .loop in
-    let a = c .before .before .before .before .args in (
-      omega arith,
-      length-set (at .rows) (at .b) _ ∙ at .inv .1,
-      copied-more (rowAt (a .words .now) (a .i)) (at .rows) (at .b) _ (omega arith) (c .row-at .ensures) (at .inv .2),
-    )
+    (omega arith, length-set (at .rows) (at .b) _ ∙ at .inv .1, entries-next _ (at .rows) (at .b) _ (omega arith) (at .inv .2) (c .row-at .ensures))
 
 returns : tie.Need-returns Inv-loop μ-loop
 returns c =
-    let at = c .before .loop in
     let a = c .before .before .before .args in
-    copied-all (rowAt (a .words .now) (a .i)) 64 (at .rows) (at .b) (omega arith) (at .inv .1) (at .inv .2)
+    let l = c .before .loop in
+    let end : l .b ≡ a .n = omega arith in
+    entries-all _ 64 _ _ (l .inv .1) (λ k. l .inv .2 k ∙ ap (λ (j : ℕ). earlier j 0 (rowAt (a .words .now) (a .i)) k) end)
 
 pub copy-rows-spec : {M : Type 1} → statement M
 copy-rows-spec =

@@ -1,31 +1,32 @@
 -- `places::gather::add` meets its contract.
-use Prim.Native.Nat.{ℕ, _+_, _-_, _^_, _≤_}
-use mathlib.Core.Path.{_≡_, ap, ap₂, _∙_}
+use Prim.Native.Nat.{ℕ, _+_, _-_, _^_, _≤_, min}
+use mathlib.Core.Path.{_≡_, refl, ap, _∙_}
 use native.Mathlib.Omega.{arith}
-use lib.Bits.{bitAnd, bitOr}
+use lib.Bits.{bitAnd}
 use lib.Dec.{ltb}
-use lib.ListN.{length, getD, length-set}
-use Rattle.semantics.specs.Proposition.{bit}
+use lib.ListN.{length, length-set}
 use Rattle.rows.specs.Row.{word}
-use Rattle.tables.specs.Table.{rowAt}
-use Rattle.places.specs.Gather.{firstName}
-use Rattle.places.proofs.Gathered.{addedRow, Added, added-none, added-turn, added-all}
+use Rattle.tables.specs.Table.{standing, rowAt}
+use Rattle.places.proofs.Gathered.{cutRow, Added, added-none, added-turn, added-all, added-ends}
 use borrow.Author.Needs.{needs}
 use Rattle.places.proofs.gather.add.Statement.{statement}
 use Rattle.places.proofs.gather.add.Tie as tie
 
 abbrev Inv-loop : tie.InvT-loop
-Inv-loop words root names short p0 p1 p2 out₀ high ends b₀ out b =
-    (length out ≡ 64) × (b ≤ high) × (high ≤ 64) × Added out₀ out (addedRow words root names short p0 p1 p2) b
+Inv-loop words root names short n out₀ high ends all₀ b₀ out all b =
+    (length out ≡ 64) × (b ≤ high) × (high ≤ 64) × Added out₀ out (cutRow words root short ends) all b
 
 abbrev μ-loop : tie.MeasureT-loop
-μ-loop words root names short p0 p1 p2 out₀ high ends b₀ out b = high - b
+μ-loop words root names short n out₀ high ends all₀ b₀ out all b = high - b
 
 first-name-requires : tie.Need-first-name-requires Inv-loop μ-loop
 first-name-requires c κs = search needs
 
-add-high : tie.Need-add-high Inv-loop μ-loop
-add-high c = search needs
+add-lesser : tie.Need-add-lesser Inv-loop μ-loop
+add-lesser c = search needs
+
+lesser-requires : tie.Need-lesser-requires Inv-loop μ-loop
+lesser-requires c κs = search needs
 
 last-name-requires : tie.Need-last-name-requires Inv-loop μ-loop
 last-name-requires c κs = search needs
@@ -35,12 +36,8 @@ below-requires c κs = search needs
 
 loop-holds : tie.Need-loop-holds Inv-loop μ-loop
 loop-holds c =
-    let a = c .before .before .before .before .before .args in (
-      c .before .before .before .before .before .pre .1,
-      (omega arith),
-      (omega (arith, c .before .before .first-name .ensures .1)),
-      added-none (a .out .now) (addedRow (a .words .now) (a .root) (a .names) (a .short) (a .p0) (a .p1) (a .p2)) (c .before .before .before .before .before .pre .1),
-    )
+    let long = c .before .before .before .before .before .before .pre .2 in
+    (long, omega arith, omega (arith, c .before .before .lesser .ensures), added-none _ _ long)
 
 mul-cut-row : tie.Need-mul-cut-row Inv-loop μ-loop
 mul-cut-row c = search needs
@@ -79,14 +76,12 @@ loop-again : tie.Need-loop-again Inv-loop μ-loop
 unfolding rowAt
 loop-again c =
     let l = c .before .before .before .before .loop in
-    let a = c .before .before .before .before .before .before .before .before .before .before .args in (
+    let a = c .before .before .before .before .before .before .before .before .before .before .before .args in
+    let row = ap (λ (x : ℕ). bitAnd x (2 ^ 64 - 1 - c .before .before .before .before .before .below .result)) (c .before .cut-row .ensures) in (
       length-set (l .out) (l .b) _ ∙ l .inv .0,
-      (omega arith),
+      omega arith,
       l .inv .2,
-      added-turn (a .out .now) (l .out) (addedRow (a .words .now) (a .root) (a .names) (a .short) (a .p0) (a .p1) (a .p2)) (l .b) _ (omega arith) (l .inv .3)
-          (ap (λ (x : ℕ). bitOr (getD (l .out) (l .b) 0) x)
-          (ap₂ (λ (x y : ℕ). bitAnd x (2 ^ 64 - 1 - y)) (c .before .cut-row .ensures)
-          (c .before .before .before .before .before .below .ensures ∙ ap (λ (x : ℕ). word 64 (λ e. ltb e x)) (c .before .before .before .before .before .before .last-name .ensures)))),
+      added-turn (a .out .now) (l .out) _ (l .all) (l .b) _ _ (omega arith) (l .inv .3) row refl,
     )
 
 same-length : tie.Need-same-length Inv-loop μ-loop
@@ -95,12 +90,16 @@ same-length c = search needs
 returns : tie.Need-returns Inv-loop μ-loop
 returns c =
     let l = c .before .loop in
-    let a = c .before .before .before .before .before .before .before .args in
-    let f = c .before .before .before .before .first-name .ensures .0 in
-    let e : l .b ≡ firstName (bit (a .names)) (a .p0) (a .p1) (a .p2) + 1 = omega (arith, f) in (
-      l .inv .0,
-      added-all (a .out .now) (l .out) (a .words .now) (a .root) (a .names) (a .short) (a .p0) (a .p1) (a .p2) (rw e at (l .inv .3)),
-    )
+    let a = c .before .before .before .before .before .before .before .before .args in
+    let ends = c .before .before .below .ensures ∙ ap (λ (x : ℕ). word 64 (λ e. ltb e x)) (c .before .before .before .last-name .ensures) in
+    let high = c .before .before .before .before .lesser .ensures ∙ ap (λ (x : ℕ). min (x + 1) (a .n)) (c .before .before .before .before .before .first-name .ensures .0) in
+    let end : l .b ≡ c .before .before .before .before .lesser .result = omega arith in
+    let few : a .n ≤ 64 = omega arith in
+    let all = added-all (a .out .now) (l .out) (a .words .now) (a .root) (a .names) (a .short) (standing (a .cycles)) (a .n) _ (l .all) (l .b) few
+    (ap (λ (x : ℕ). 2 ^ 64 - 1 - x) ends) (end ∙ high) (l .inv .3) in
+    let some = added-ends (a .out .now) (l .out) (a .words .now) (a .root) (a .names) (a .short) (standing (a .cycles)) (a .n) _ (l .all) (l .b) few
+    (ap (λ (x : ℕ). 2 ^ 64 - 1 - x) ends) (end ∙ high) (l .inv .3) in
+    (l .inv .0, (all, some))
 
 pub add-spec : {M : Type 1} → statement M
 add-spec =
@@ -109,7 +108,8 @@ add-spec =
     Inv-loop
     μ-loop
     first-name-requires
-    add-high
+    add-lesser
+    lesser-requires
     last-name-requires
     below-requires
     loop-holds

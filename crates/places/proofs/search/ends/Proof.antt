@@ -1,9 +1,12 @@
 -- `places::search::ends` meets its contract.
-use mathlib.Core.Path.{_∙_}
-use native.Mathlib.Omega.{arith}
-use Rattle.places.specs.Rows.{testOf, ending}
-use Rattle.places.proofs.Found.{only-end}
 use borrow.Author.Needs.{needs}
+use mathlib.Core.Path.{ap, _∙_}
+use native.Mathlib.Omega.{arith}
+use Prim.Native.Nat.{ℕ}
+use lib.Bits.{bitAnd}
+use lib.ListN.{getD}
+use Rattle.places.specs.Rows.{testOf, ending}
+use Rattle.places.proofs.Found.{only-end, first-starts}
 use Rattle.places.proofs.search.ends.Statement.{statement}
 use Rattle.places.proofs.search.ends.Tie as tie
 
@@ -34,70 +37,64 @@ only-requires-4 c κs = search needs
 enum-told-5 : tie.Need-enum-told-5
 enum-told-5 c = search needs
 
-mul-unmet-ends : tie.Need-mul-unmet-ends
-mul-unmet-ends c = search needs
+cycles-from-requires : tie.Need-cycles-from-requires
+cycles-from-requires c κs = search needs
 
-shared-slice-read-unmet-ends : tie.Need-shared-slice-read-unmet-ends
-shared-slice-read-unmet-ends c = search needs
+mul-result : tie.Need-mul-result
+mul-result c = search needs
 
-mul-unmet-ends-2 : tie.Need-mul-unmet-ends-2
-mul-unmet-ends-2 c = search needs
-
-shared-slice-read-unmet-ends-2 : tie.Need-shared-slice-read-unmet-ends-2
-shared-slice-read-unmet-ends-2 c = search needs
-
-unmet-ends-requires : tie.Need-unmet-ends-requires
-unmet-ends-requires c κs = search needs
+shared-slice-read-result : tie.Need-shared-slice-read-result
+shared-slice-read-result c = search needs
 
 enum-told-6 : tie.Need-enum-told-6
 enum-told-6 c = search needs
 
-mul-unmet-ends-3 : tie.Need-mul-unmet-ends-3
-mul-unmet-ends-3 c = search needs
+cycles-from-requires-2 : tie.Need-cycles-from-requires-2
+cycles-from-requires-2 c κs = search needs
 
-shared-slice-read-unmet-ends-3 : tie.Need-shared-slice-read-unmet-ends-3
-shared-slice-read-unmet-ends-3 c = search needs
+mul-result-2 : tie.Need-mul-result-2
+mul-result-2 c = search needs
 
-mul-unmet-ends-4 : tie.Need-mul-unmet-ends-4
-mul-unmet-ends-4 c = search needs
-
-shared-slice-read-unmet-ends-4 : tie.Need-shared-slice-read-unmet-ends-4
-shared-slice-read-unmet-ends-4 c = search needs
-
-unmet-ends-requires-2 : tie.Need-unmet-ends-requires-2
-unmet-ends-requires-2 c κs = search needs
+shared-slice-read-result-2 : tie.Need-shared-slice-read-result-2
+shared-slice-read-result-2 c = search needs
 
 returns : tie.Need-returns
 unfolding ending
 returns c =
-    let a = c .before .before .before .before .before .args in
+    let a = c .before .before .before .before .args in
     rw (c .before .enum-told .given .1) (c .only .ensures ∙ only-end (a .n) (a .j) (omega arith) (omega arith))
 
 returns-2 : tie.Need-returns-2
 unfolding ending
 returns-2 c =
-    let a = c .before .before .before .before .before .args in
+    let a = c .before .before .before .before .args in
     rw (c .before .enum-told2 .given .1) (c .only2 .ensures ∙ only-end (a .n) (a .j) (omega arith) (omega arith))
 
 returns-3 : tie.Need-returns-3
 unfolding ending
 returns-3 c =
-    let a = c .before .before .before .before .before .args in
+    let a = c .before .before .before .before .args in
     rw (c .before .enum-told3 .given .1) (c .only3 .ensures ∙ only-end (a .n) (a .j) (omega arith) (omega arith))
 
 returns-4 : tie.Need-returns-4
 unfolding ending
 returns-4 c =
-    let a = c .before .before .before .before .before .args in
+    let a = c .before .before .before .before .args in
     rw (c .before .enum-told4 .given .1) (c .only4 .ensures ∙ only-end (a .n) (a .j) (omega arith) (omega arith))
 
 returns-5 : tie.Need-returns-5
 unfolding testOf ending
-returns-5 c = rw (c .before .before .before .enum-told5 .given .1) (c .unmet-ends .ensures)
+returns-5 c =
+    let a = c .before .before .before .before .before .args in
+    rw (c .before .before .enum-told5 .given .1)
+    (ap (λ (x : ℕ). bitAnd x (getD (a .third .now) (a .j) 0)) (c .before .cycles-from .ensures) ∙ first-starts (a .n) (a .j) (getD (a .third .now) (a .j) 0))
 
 returns-6 : tie.Need-returns-6
 unfolding testOf ending
-returns-6 c = rw (c .before .before .before .enum-told6 .given .1) (c .unmet-ends2 .ensures)
+returns-6 c =
+    let a = c .before .before .before .before .before .args in
+    rw (c .before .before .enum-told6 .given .1)
+    (ap (λ (x : ℕ). bitAnd x (getD (a .third .now) (a .i) 0)) (c .before .cycles-from2 .ensures) ∙ first-starts (a .n) (a .i) (getD (a .third .now) (a .i) 0))
 
 pub ends-spec : {M : Type 1} → statement M
 ends-spec =
@@ -112,17 +109,13 @@ ends-spec =
     enum-told-4
     only-requires-4
     enum-told-5
-    mul-unmet-ends
-    shared-slice-read-unmet-ends
-    mul-unmet-ends-2
-    shared-slice-read-unmet-ends-2
-    unmet-ends-requires
+    cycles-from-requires
+    mul-result
+    shared-slice-read-result
     enum-told-6
-    mul-unmet-ends-3
-    shared-slice-read-unmet-ends-3
-    mul-unmet-ends-4
-    shared-slice-read-unmet-ends-4
-    unmet-ends-requires-2
+    cycles-from-requires-2
+    mul-result-2
+    shared-slice-read-result-2
     returns
     returns-2
     returns-3

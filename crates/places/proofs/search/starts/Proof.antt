@@ -80,7 +80,7 @@ returns-5 c =
     let a = c .before .before .before .args in
     rw (c .before .enum-told3 .given .1)
     (ap (λ (x : ℕ). bitAnd x (a .first)) (c .cycles-from .ensures)
-    ∙ first-starts (a .n) (a .i) (a .first) (a .answers) (c .before .before .before .pre) (omega arith))
+    ∙ first-starts (a .n) (a .i) (a .first))
 
 returns-6 : tie.Need-returns-6
 returns-6 c =
@@ -95,7 +95,7 @@ returns-7 c =
     let a = c .before .before .before .args in
     rw (c .before .enum-told5 .given .1)
     (ap (λ (x : ℕ). bitAnd x (a .first)) (c .cycles-from3 .ensures)
-    ∙ first-starts (a .n) (a .i) (a .first) (a .answers) (c .before .before .before .pre) (omega arith))
+    ∙ first-starts (a .n) (a .i) (a .first))
 
 returns-8 : tie.Need-returns-8
 unfolding starting
@@ -103,7 +103,7 @@ returns-8 c =
     let a = c .before .before .before .args in
     rw (c .before .enum-told6 .given .1)
     (ap (λ (x : ℕ). bitAnd x (a .first)) (c .cycles-from4 .ensures)
-    ∙ first-starts (a .n) (a .i) (a .first) (a .answers) (c .before .before .before .pre) (omega arith))
+    ∙ first-starts (a .n) (a .i) (a .first))
 
 pub starts-spec : {M : Type 1} → statement M
 starts-spec =

@@ -6,7 +6,7 @@ use borrow.Author.Needs.{needs}
 use mathlib.Core.List.{List}
 use lib.ListN.{length, getD, length-set}
 use denote.Ref.{now}
-use Rattle.checker.proofs.Copies.{copied-more, copied-all}
+use Rattle.printed.proofs.Copies.{copied-more, copied-all}
 use Rattle.printed.specs.Text.{textOf, pageOf}
 use Rattle.printed.proofs.page.page_of.Statement.{statement}
 use Rattle.printed.proofs.page.page_of.Tie as tie

@@ -10,16 +10,16 @@ use Rattle.tables.proofs.column.second.Tie as tie
 q-use-requires : tie.Need-q-use-requires
 q-use-requires c κs = search needs
 
-name-requires : tie.Need-name-requires
-name-requires c κs =
+name-column-requires : tie.Need-name-column-requires
+name-column-requires c κs =
     let two = sym (c .before .q-use .ensures) ∙ c .if1 .taken in
-    omega (arith, c .before .before .pre .0 .second-name two)
+    omega (arith, c .before .before .before .pre .0 .second-name two)
 
 returns : tie.Need-returns
 unfolding secondColumn
 returns c =
     let two = sym (c .before .before .q-use .ensures) ∙ c .before .if1 .taken in
-    rw (eq-eqb _ _ two) (c .name .ensures)
+    rw (eq-eqb _ _ two) (c .name-column .ensures)
 
 returns-2 : tie.Need-returns-2
 unfolding secondColumn
@@ -28,4 +28,4 @@ returns-2 c =
     rw other
 
 pub second-spec : {M : Type 1} → statement M
-second-spec = tie.close (tie.spec q-use-requires name-requires returns returns-2)
+second-spec = tie.close (tie.spec q-use-requires name-column-requires returns returns-2)

@@ -4,7 +4,6 @@ use native.Mathlib.Omega.{arith}
 use lib.ListN.{length-set}
 use Rattle.stored.specs.declared.Node.{Node}
 use Rattle.stored.specs.Tree.{propositionOp}
-use Rattle.tables.specs.Table.{standing}
 use Rattle.tables.specs.Step.{columnOf}
 use Rattle.tables.proofs.Nodes.{proposition-read}
 use Rattle.tables.proofs.Fills.{column-put, column-law}
@@ -20,7 +19,7 @@ proposition-requires c κs =
     let g = c .before .before .before .before .before .pre .0 in
     let s = c .before .before .before .before .before .pre .1 .1 .1 in
     let t = proposition-read g (a .i) (c .before .node-at .result) (omega arith) (c .before .node-at .ensures) s in
-    (t .0, (omega (arith, t .1)))
+    (t .0, (omega (arith, t .1, g .few-cycles, g .columned .all)))
 
 mul-words : tie.Need-mul-words
 mul-words c = omega (arith, c .before .before .before .before .before .before .pre .0)
@@ -40,9 +39,9 @@ returns c =
     let g = c .before .before .before .before .before .before .pre .0 in
     let before = c .before .before .before .before .before .before .pre .1 .0 in
     let s = c .before .before .before .before .before .before .pre .1 .1 .1 in
-    column-put (a .i) _ _ (a .words .now) refl (omega (arith, g)) s
+    column-put (g .few-cycles) (a .i) _ _ (a .words .now) refl (omega (arith, g)) s
     (c .proposition .ensures
-    ∙ ap (λ (x : Node). columnOf (propositionOp (x .op)) x (a .trace .now) (a .n) (standing (a .p0) (a .p1) (a .p2)) (a .words .now)) (c .before .before .node-at .ensures)
+    ∙ ap (λ (x : Node). columnOf (propositionOp (x .op)) x (a .n) (a .columns .now) (a .words .now)) (c .before .before .node-at .ensures)
     ∙ column-law g (a .i) (omega arith) (a .words .now) before s)
 
 pub put-column-spec : {M : Type 1} → statement M

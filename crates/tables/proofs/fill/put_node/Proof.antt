@@ -23,7 +23,7 @@ put-pair-requires c κs =
     (p .0, (p .1 .0, (p .1 .1, pair ∙ c .before .if1 .taken)))
 
 same-length : tie.Need-same-length
-same-length c = c .before .before .put-pair .kept .1 .1 .1 .1 .1 .1 .1 .1 .0
+same-length c = c .before .before .put-pair .kept .1 .1 .1 .1 .1 .0
 
 returns : tie.Need-returns
 returns c = c .before .before .put-pair .ensures
@@ -38,7 +38,7 @@ put-column-requires c κs =
     (p .0, (p .1 .0, (p .1 .1, sort ∙ c .before .if2 .taken)))
 
 same-length-2 : tie.Need-same-length-2
-same-length-2 c = c .before .before .put-column .kept .1 .1 .1 .1 .1 .1 .1 .1 .0
+same-length-2 c = c .before .before .put-column .kept .1 .1 .1 .1 .1 .0
 
 returns-2 : tie.Need-returns-2
 returns-2 c = c .before .before .put-column .ensures
@@ -62,13 +62,13 @@ put-drawing-requires c κs =
     (p .0, (p .1 .0, (p .1 .1, formula-left _ (node-sorted (p .0) (a .i) (p .1 .1)) (λ e. c .before .before .if2 .left (sym sort ∙ e)), (omega (arith, op, c .before .if3 .left)))))
 
 same-length-3 : tie.Need-same-length-3
-same-length-3 c = c .before .before .put-rows .kept .1 .1 .1 .1 .1 .1 .1 .1 .0
+same-length-3 c = c .before .before .put-rows .kept .1 .1 .1 .1 .1 .0
 
 returns-3 : tie.Need-returns-3
 returns-3 c = c .before .before .put-rows .ensures
 
 same-length-4 : tie.Need-same-length-4
-same-length-4 c = c .before .before .put-drawing .kept .1 .1 .1 .1 .1 .1 .1 .1 .0
+same-length-4 c = c .before .before .put-drawing .kept .1 .1 .1 .1 .1 .0
 
 returns-4 : tie.Need-returns-4
 returns-4 c = c .before .before .put-drawing .ensures

@@ -1,24 +1,22 @@
 -- `tables::fill::put_rows` meets its contract.
 use mathlib.Core.Path.{_≡_, refl, _∙_, ap}
 use native.Mathlib.Omega.{arith}
-use Prim.Native.Nat.{_-_, _≤_}
+use Prim.Native.Nat.{_≤_}
 use lib.ListN.{length, length-set}
 use Rattle.stored.specs.declared.Node.{Node}
+use Rattle.stored.specs.Columns.{traceOf, marksOf}
 use Rattle.stored.specs.Node.{nodeAt}
-use Rattle.stored.specs.Trace.{cyclesOf}
-use Rattle.stored.specs.Tree.{formulaOp}
-use Rattle.tables.specs.Table.{standing}
-use Rattle.tables.specs.Step.{firstColumn, secondColumn, isPair, lineOf}
+use Rattle.tables.specs.Step.{isPair}
 use Rattle.tables.proofs.Nodes.{formula-read}
-use Rattle.tables.proofs.Fills.{Partly, partly-none, partly-more, partly-all, before-kept, line-law}
+use Rattle.tables.proofs.Fills.{Partly, partly-none, partly-row, partly-all}
 use Rattle.tables.proofs.fill.put_rows.Statement.{statement}
 use Rattle.tables.proofs.fill.put_rows.Tie as tie
 
 abbrev Inv-loop : tie.InvT-loop
-Inv-loop nodes count trace n p0 p1 p2 i words₀ x first second b₀ words b = (b ≤ 64) × (length words ≡ length words₀) × Partly (nodeAt nodes) (cyclesOf trace) n (standing p0 p1 p2) i b words₀ words
+Inv-loop nodes count n columns i words₀ x first second b₀ words b = (b ≤ n) × (length words ≡ length words₀) × Partly (nodeAt nodes) (traceOf n columns) (marksOf columns) n i b words₀ words
 
 abbrev μ-loop : tie.MeasureT-loop
-μ-loop nodes count trace n p0 p1 p2 i words₀ x first second b₀ words b = b
+μ-loop nodes count n columns i words₀ x first second b₀ words b = b
 
 node-at-requires : tie.Need-node-at-requires Inv-loop μ-loop
 node-at-requires c κs = omega (arith, c .before .before .before .pre .0)
@@ -29,7 +27,7 @@ first-requires c κs =
     let g = c .before .before .before .before .before .pre .0 in
     let s = c .before .before .before .before .before .pre .1 .1 .0 .1 in
     let t = formula-read g (a .i) (c .before .node-at .result) (omega arith) (c .before .node-at .ensures) s in
-    (t .0, (omega (arith, g)))
+    (t .0, (omega (arith, g, g .columned .all)))
 
 second-requires : tie.Need-second-requires Inv-loop μ-loop
 second-requires c κs =
@@ -37,25 +35,26 @@ second-requires c κs =
     let g = c .before .before .before .before .before .before .pre .0 in
     let s = c .before .before .before .before .before .before .pre .1 .1 .0 .1 in
     let t = formula-read g (a .i) (c .before .before .node-at .result) (omega arith) (c .before .before .node-at .ensures) s in
-    (t .0, (omega (arith, g)))
+    (t .0, (omega (arith, g, g .columned .all)))
 
 loop-holds : tie.Need-loop-holds Inv-loop μ-loop
 loop-holds c =
     let a = c .before .before .before .before .before .before .before .args in
-    (omega arith, refl, partly-none (a .i) (a .words .now))
+    let g = c .before .before .before .before .before .before .before .pre .0 in
+    (omega arith, refl, partly-none (g .few-cycles) (a .i) (a .words .now))
 
 sub-b : tie.Need-sub-b Inv-loop μ-loop
 sub-b c = omega arith
 
-line-requires : tie.Need-line-requires Inv-loop μ-loop
-line-requires c κs =
+plain-row-requires : tie.Need-plain-row-requires Inv-loop μ-loop
+plain-row-requires c κs =
     let a = c .before .before .before .before .before .before .before .before .before .before .args in
     let g = c .before .before .before .before .before .before .before .before .before .before .pre .0 in
     let s = c .before .before .before .before .before .before .before .before .before .before .pre .1 .1 .0 .1 in
     let node = c .before .before .before .before .before .before .node-at .ensures in
     let t = formula-read g (a .i) (c .before .before .before .before .before .before .node-at .result) (omega arith) node s in
     let same = ap (λ (x : Node). x .op) node in
-    (t .0, ((omega (arith, t .1)), (omega (arith, c .before .before .before .before .before .before .before .before .before .before .pre .1 .1 .1 .0, same)), (ap isPair same ∙ c .before .before .before .before .before .before .before .before .before .before .pre .1 .1 .1 .1), (omega (arith, g)), (omega (arith, g, c .before .before .loop .inv .1))))
+    (t .0, ((omega (arith, t .1)), (omega (arith, c .before .before .before .before .before .before .before .before .before .before .pre .1 .1 .1 .0, same)), (ap isPair same ∙ c .before .before .before .before .before .before .before .before .before .before .pre .1 .1 .1 .1), (omega (arith, c .before .before .loop .inv .0)), (omega (arith, g)), (omega (arith, g, c .before .before .loop .inv .1))))
 
 mul-words : tie.Need-mul-words Inv-loop μ-loop
 mul-words c = omega (arith, c .before .before .before .before .before .before .before .before .before .before .before .pre .0)
@@ -80,22 +79,13 @@ loop-again c =
     let s = c .before .before .before .before .before .before .before .before .before .before .before .pre .1 .1 .0 .1 in
     let at = c .before .before .before .loop in
     let h = c .before .before .before .before .before .before .before .before .before .before .before .pre .1 .1 .0 .0 in
-    let positive = c .before .before .loop-test .taken in
-    let e = c .before .before .before .before .before .before .before .node-at .ensures in
+    let x = c .before .before .before .before .before .before .before .node-at in
     let first = c .before .before .before .before .before .first in
-    let second = c .before .before .before .before .second in
-    let ν = standing (a .p0) (a .p1) (a .p2) in (
+    let second = c .before .before .before .before .second in (
       omega arith,
       length-set (at .words) _ _ ∙ at .inv .1,
-      partly-more (a .i) (at .b) _ (a .words .now) (at .words) positive (at .inv .0) (omega (arith, g, h, at .inv .1, at .inv .0))
-          (c .line .ensures
-          ∙ ap (λ (x : Node). lineOf (formulaOp (x .op)) x (a .n) (first .result) (second .result) (at .words) (a .i) (at .b - 1)) e
-          ∙ line-law g (a .i) h (a .words .now) (at .words) (first .result) (second .result) (at .b - 1) before
-          (before-kept (a .i) (a .words .now) (at .words) (at .inv .2 .beside) before) s
-          (first .ensures ∙ ap (λ (x : Node). firstColumn (x .op) x (a .trace .now) (a .n) ν (a .words .now)) e)
-          (second .ensures ∙ ap (λ (x : Node). secondColumn (x .op) x (a .n) ν) e)
-          (λ d l m. at .inv .2 .later d (omega arith) m))
-          (at .inv .2),
+      partly-row g (a .i) h (x .result) (first .result) (second .result) (at .b) _ (a .words .now) (at .words) (x .ensures) s
+          (c .before .before .loop-test .taken) (at .inv .0) (at .inv .1) before (first .ensures) (second .ensures) (c .plain-row .ensures) (at .inv .2),
     )
 
 same-length : tie.Need-same-length Inv-loop μ-loop
@@ -109,7 +99,7 @@ returns c =
     let s = c .before .before .before .before .before .before .before .before .before .pre .1 .1 .0 .1 in
     let at = c .before .loop in
     let none : at .b ≡ 0 = omega arith in
-    partly-all (a .i) (at .b) (a .words .now) (at .words) none s (at .inv .2)
+    partly-all (g .few-cycles) (a .i) (at .b) (a .words .now) (at .words) none s (at .inv .2)
 
 pub put-rows-spec : {M : Type 1} → statement M
 put-rows-spec =
@@ -122,7 +112,7 @@ put-rows-spec =
     second-requires
     loop-holds
     sub-b
-    line-requires
+    plain-row-requires
     mul-words
     add-words
     mul-words-2
