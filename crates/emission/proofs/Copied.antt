@@ -18,17 +18,20 @@ use Rattle.semantics.proofs.Cycles.{count-most}
 use Rattle.stored.specs.declared.Node.{Node}
 use Rattle.stored.specs.Bytes.{word, everyBelow}
 use Rattle.stored.specs.Node.{requirementSorts, emittedSorts, sortOf, qUse, aUse, bUse, nodeAt, fieldRight, fieldsRight, operandRight, operandsRight}
-use Rattle.stored.specs.Tree.{comparisonOf, PropositionOp, FormulaOp, propositionOp, formulaOp, propositionOf, propositionAt, formulaOf, formulaAt}
+use Rattle.stored.specs.Tree.{comparisonOf, symbolOf, PropositionOp, FormulaOp, propositionOp, formulaOp, propositionOf, propositionAt, formulaOf, formulaAt}
 use Rattle.stored.specs.Reach.{entryOf}
 use Rattle.stored.specs.Sheet.{headerOf}
 use Rattle.stored.specs.Written.{nodeIn, NodeFits}
 use Rattle.stored.proofs.Rules.{every-number}
 use Rattle.stored.proofs.Tree.{proposition-cases, formula-cases, operands, proposition-law, formula-law}
-use Rattle.emission.specs.Bound.{isDrawing, drawingAt}
-use Rattle.emission.specs.Emission.{mostNodes, count, propositionIn, formulaIn, Good, Step, HasProposition, Has, Emits, Addable, Added}
-use Rattle.emission.specs.Copying.{Stands, Mapped, mappedTo, copiedNode, noPropositions, noFormulas, drawingOf, copyCost, copyCosts}
-use Rattle.emission.proofs.Steps.{has-kept, proposition-kept, made-proposition, made-formula}
-use Rattle.emission.proofs.Nodes.{of-formula, of-proposition}
+use Rattle.emission.specs.Bound.{mostNodes, isDrawing, drawingAt}
+use Rattle.emission.specs.Emission.{count, propositionIn, formulaIn, Good, Step, HasProposition, Has, Emits, Ready}
+use Rattle.emission.specs.Plan.{Wrote}
+use Rattle.emission.specs.Copying.{Stands, Mapped, mappedTo, copiedNode, noPropositions, noFormulas, drawingOf, Copied, byOthers, itself, copyCost, copyCosts, NodesIn}
+use Rattle.emission.proofs.Steps.{stay, steps, wider, has-kept, proposition-kept, ready-kept, Addable, Added, put-added}
+use Rattle.emission.proofs.Nodes.{of-formula, of-proposition, new-proposition, new-formula}
+use Rattle.emission.proofs.Plans.{Tells}
+use Rattle.emission.proofs.Drawings.{symbol-told, mark-told, gap-told}
 
 -- ---- sorts
 sameSort : ℕ → ℕ → ℕ → Bool
@@ -163,7 +166,7 @@ may-copy {x} {y} {map} n good room fits plain right a b =
     record {
       good = good;
       room = room;
-      fits =
+      fields =
           record {
             op-fits = fits .op-fits;
             q-fits = fits .q-fits;
@@ -242,14 +245,14 @@ copied-stands {x} {i} {y} {z} {map} {r} kept some plain a b new =
     let sort = sort-copied (x i) plain some in
     record {
       proposition =
-          λ e. made-proposition new _ (sort ∙ e)
+          λ e. new-proposition new _ (sort ∙ e)
           (copied-proposition map (x i) (propositionAt x) (propositionIn z) (x i .op)
           (λ u. proposition-kept (new .step) (a .proposition u) .tree)
           (λ u. proposition-kept (new .step) (b .proposition u) .tree)
           ∙ sym (proposition-law requirementSorts x i kept))
           .has;
       formula =
-          λ e. made-formula new _ (sort ∙ e)
+          λ e. new-formula new _ (sort ∙ e)
           (copied-formula map (x i) (propositionAt x) (propositionIn z) (formulaAt x) (formulaIn z) (x i .op)
           plain
           (λ u. proposition-kept (new .step) (a .proposition u) .tree)
@@ -339,24 +342,24 @@ node-fits l i h =
       b-fits = omega (arith, h (6 * i + 4), h (6 * i + 4 + 1));
     }
 
--- ---- the fields of a drawing that rule 6 takes
-module _ (s m : ℕ) (n : Node) (right : fieldsRight requirementSorts s m n ≡ true) where
-  pub symbol-right : n .op ≡ 27 → (n .q < 8) × (n .a < s)
-  unfolding fieldRight qUse aUse
-  symbol-right e = (
-    ltb-true _ _ (and-left (ltb (n .q) 8) true (subst (λ (k : ℕ). fieldRight s m (qUse k) (n .q) ≡ true) e (q-right s m n right))),
-    ltb-true _ _ (and-left (ltb (n .a) s) true (subst (λ (k : ℕ). fieldRight s m (aUse k) (n .a) ≡ true) e (a-right s m n right))),
-  )
+-- ---- drawings take at most 12 nodes
+DrawingTold : List ℕ → Node → ℕ → Type 0
+DrawingTold y n k =
+    fieldRight (headerOf y .signals) (headerOf y .names) (qUse k) (n .q) ≡ true
+    → fieldRight (headerOf y .signals) (headerOf y .names) (aUse k) (n .a) ≡ true
+    → Tells y (undrawn (formulaOf (formulaOp k) n noPropositions noFormulas)) (undrawn (formulaOf (formulaOp k) n noPropositions noFormulas)) 12
 
-  pub mark-right : n .op ≡ 28 → n .a < m
-  unfolding fieldRight aUse
-  mark-right e = ltb-true _ _ (and-left (ltb (n .a) m) true (subst (λ (k : ℕ). fieldRight s m (aUse k) (n .a) ≡ true) e (a-right s m n right)))
-
-  pub gap-right : n .op ≡ 29 → (n .q / 16 < m) × (n .q % 16 < m)
-  unfolding fieldRight qUse
-  gap-right e =
-      let both : (ltb (n .q / 16) m && ltb (n .q % 16) m) ≡ true = subst (λ (k : ℕ). fieldRight s m (qUse k) (n .q) ≡ true) e (q-right s m n right) in
-      (ltb-true _ _ (and-left (ltb (n .q / 16) m) _ both), ltb-true _ _ (and-right (ltb (n .q / 16) m) _ both))
+drawing-told : {y : List ℕ} (n : Node) → Ready y → NodeFits n → isDrawing n ≡ true
+    → fieldsRight requirementSorts (headerOf y .signals) (headerOf y .names) n ≡ true → Tells y (drawingOf n) (drawingOf n) 12
+unfolding drawingOf DrawingTold fieldRight qUse aUse formulaOf formulaOp undrawn
+drawing-told {y} n ready fits drawing right =
+    let s = headerOf y .signals in
+    let m = headerOf y .names in
+    drawing-cases (DrawingTold y n)
+    (λ q a. symbol-told ready (symbolOf (n .q)) (ltb-true _ _ (and-left (ltb (n .a) s) true a)))
+    (λ q a. mark-told ready (ltb-true _ _ (and-left (ltb (n .a) m) true a)))
+    (λ q a. gap-told ready (ltb-true _ _ (and-left (ltb (n .q / 16) m) _ q)) (ltb-true _ _ (and-right (ltb (n .q / 16) m) _ q)) (fits .a-fits) (fits .b-fits))
+    n drawing (q-right s m n right) (a-right s m n right)
 
 pub gap-is : (n : Node) → isDrawing n ≡ true → (n .op ≡ 27 → ⊥) → (n .op ≡ 28 → ⊥) → n .op ≡ 29
 unfolding isDrawing
@@ -365,28 +368,29 @@ gap-is n e a b =
     let high = leb-true (n .op) 29 (and-right (leb 27 (n .op)) _ e) in
     omega arith
 
--- ---- one node copied, n being node i
-module _ (x : ℕ → Node) (i : ℕ) {n : Node} (is : n ≡ x i) (kept : operandsRight requirementSorts x i ≡ true) where
-  pub copied-drawing : {y z : List ℕ} {r : ℕ} → isDrawing n ≡ true → Emits y z r 12 (drawingOf n) → (Step y z (copyCost (x i))) × (Stands x i z r)
-  unfolding copyCost
-  copied-drawing {y} {z} {r} drawing e =
-      let here : isDrawing (x i) ≡ true = ap isDrawing (sym is) ∙ drawing in (
-        subst (λ (b : Bool). Step y z (cond b 12 1)) (sym here) (e .step),
-        drawing-stands kept here (subst (λ (o : Node). Emits y z r 12 (drawingOf o)) is e),
-      )
+-- ---- node i copied
+pub copied : {y z map : List ℕ} {r : ℕ} (x : ℕ → Node) (i : ℕ) → Ready y → count y + 12 ≤ mostNodes
+    → fieldsRight requirementSorts (headerOf y .signals) (headerOf y .names) (x i) ≡ true → operandsRight requirementSorts x i ≡ true
+    → Mapped x i y map → Copied map (x i) y z r → (Step y z (copyCost (x i))) × (Stands x i z r)
+unfolding copyCost
+copied {y} {z} {r = r} x i ready room right kept mapped (byOthers drawing fits w) =
+    let e = drawing-told (x i) ready fits drawing right y z r 0 (stay (ready .good)) room w in
+    (subst (λ (b : Bool). Step y z (cond b 12 1)) (sym drawing) (e .step), drawing-stands kept drawing e)
+copied {y} {z} x i ready room right kept mapped (itself plain fits put) =
+    let a = given-a kept mapped in
+    let b = given-b kept mapped in
+    let new = put-added (may-copy (x i) (ready .good) (omega arith) fits plain right a b) put in
+    (subst (λ (b : Bool). Step y z (cond b 12 1)) (sym plain) (new .step), copied-stands kept (some-sort _ _ (x i) right) plain a b new)
 
-  module _ (y map : List ℕ) (right : fieldsRight requirementSorts (headerOf y .signals) (headerOf y .names) (x i) ≡ true) (mapped : Mapped x i y map) (plain : isDrawing n ≡ false) where
-    here-plain : isDrawing (x i) ≡ false
-    here-plain = ap isDrawing (sym is) ∙ plain
-
-    pub may-copied : Good y → count y < mostNodes → NodeFits (x i) → Addable y (copiedNode map n)
-    may-copied good room fits =
-        rw is (may-copy (x i) good room fits here-plain right (given-a kept mapped) (given-b kept mapped))
-
-    pub copied-plain : {z : List ℕ} {r : ℕ} → Added y z r (copiedNode map n) → (Step y z (copyCost (x i))) × (Stands x i z r)
-    unfolding copyCost
-    copied-plain {z} {r} new = (
-      subst (λ (b : Bool). Step y z (cond b 12 1)) (sym here-plain) (new .step),
-      copied-stands kept (some-sort _ _ (x i) right) here-plain (given-a kept mapped) (given-b kept mapped)
-          (subst (λ (o : Node). Added y z r (copiedNode map o)) is new),
-    )
+-- one turn of the loop over the n nodes of a sheet
+pub copied-next : {x y z map nodes : List ℕ} {n r : ℕ} (i : ℕ) → Ready x → count x + 780 ≤ mostNodes → NodesIn x nodes n → i < n → length map ≡ 64
+    → Step x y (copyCosts (nodeAt nodes) i) → Mapped (nodeAt nodes) i y map → Copied map (nodeAt nodes i) y z r
+    → (Step x z (copyCosts (nodeAt nodes) (i + 1))) × (Mapped (nodeAt nodes) (i + 1) z (set map i r))
+copied-next {y = y} {map = map} {nodes = nodes} i ready room sheet less long s mapped new =
+    let few = sheet .few in
+    let right : fieldsRight requirementSorts (headerOf y .signals) (headerOf y .names) (nodeAt nodes i) ≡ true
+    = rw (s .signals, s .names) (sheet .fields i less)
+    in
+    let e = copied (nodeAt nodes) i (ready-kept s ready) (omega (arith, s .few, costs-most (nodeAt nodes) i)) right (sheet .operands i less) mapped new in
+    (wider _ (omega (arith, cost-next (nodeAt nodes) i)) (steps s (e .0)),
+      mapped-next (nodeAt nodes) i map (omega arith) (mapped-kept (nodeAt nodes) i map (e .0) mapped) (e .1))
