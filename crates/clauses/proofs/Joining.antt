@@ -46,7 +46,8 @@ clause-known {x} {nodes} {clauses} {n} h k l e =
     rw e (clause-kept (nodeAt nodes) n (headerOf x .names) (storedAt clauses k) (h .right k l) (h .named k l))
 
 module _ {y : List ℕ} (map : List ℕ) (x : ℕ → Node) (n : ℕ) (d : StoredClause) (mapped : Mapped x n y map) (kept : ClauseKept x n (headerOf y .names) d) where
-  part-told : (used : Bool) (root mask : ℕ) → PartKept x n (headerOf y .names) used root mask → used ≡ true → Tells y (at (entryOf map root)) (undrawn (formulaAt x root)) 0
+  part-told : (used : Bool) (root mask : ℕ) → PartKept x n (headerOf y .names) used root mask → used ≡ true
+      → Tells y (at (entryOf map root)) (undrawn (formulaAt x root)) 0
   part-told used root mask p u = told (mapped root (p .root-found u .less) .formula (p .root-found u .sorted))
 
   clause-told : Ready y → Tells y (brokenIn map d) (brokenClause (clauseOf x d)) (10 + 6 * headerOf y .names)
@@ -119,8 +120,12 @@ role-two zero h (suc (suc j)) l = absurd (omega arith)
 role-two (suc zero) h (suc (suc j)) l = absurd (omega arith)
 role-two (suc (suc r)) h j l = absurd (omega arith)
 
-join-snoc : (r : Role) (f : Formula) (cs : List Clause) (c : Clause) → joinBroken r f (cs ++ (c ∷ [])) ≡ cond (hasRole r c) (disjunction (joinBroken r f cs) (brokenClause c)) (joinBroken r f cs)
-unfolding joinBroken
+-- formula f of the earlier clauses, with clause c joined where it is of the role
+withLast : Bool → Formula → Clause → Formula
+withLast of f c = cond of (disjunction f (brokenClause c)) f
+
+join-snoc : (r : Role) (f : Formula) (cs : List Clause) (c : Clause) → joinBroken r f (cs ++ (c ∷ [])) ≡ withLast (hasRole r c) (joinBroken r f cs) c
+unfolding joinBroken withLast
 join-snoc r f [] c = refl
 join-snoc r f (d ∷ cs) c = join-snoc r (cond (hasRole r d) (disjunction f (brokenClause d)) f) cs c
 
@@ -128,16 +133,17 @@ has-as : {y : List ℕ} {a : ℕ} {f g : Formula} (b : ℕ) → a ≡ b → f �
 has-as b e q h = rw (sym e, sym q) h
 
 module _ (cs : List Clause) (k : ℕ) (c : Clause) (inside : k < length cs) (is : getD cs k c ≡ c) where
-  join-one : (r : Role) (b : Bool) → hasRole r c ≡ b → cond b (disjunction (joinBroken r nothing (take k cs)) (brokenClause c)) (joinBroken r nothing (take k cs)) ≡ joinBroken r nothing (take (k + 1) cs)
+  join-one : (r : Role) (b : Bool) → hasRole r c ≡ b → withLast b (joinBroken r nothing (take k cs)) c ≡ joinBroken r nothing (take (k + 1) cs)
   join-one r b e =
       sym (ap (λ (n : ℕ). joinBroken r nothing (take n cs)) (add-one k)
       ∙ ap (joinBroken r nothing) (take-suc cs k c inside ∙ ap (λ (o : Clause). take k cs ++ (o ∷ [])) is)
       ∙ join-snoc r nothing (take k cs) c
-      ∙ ap (λ (z : Bool). cond z (disjunction (joinBroken r nothing (take k cs)) (brokenClause c)) (joinBroken r nothing (take k cs))) e)
+      ∙ ap (λ (z : Bool). withLast z (joinBroken r nothing (take k cs)) c) e)
 
-  joined-one : {x y w sides : List ℕ} {r j : ℕ} (role : ℕ) → role < 2 → c .role ≡ roleOf role → Joined cs x k y sides → Step x w ((k + 1) * clauseCost (headerOf x .names))
-      → Step y w j → Has w r (disjunction (joinBroken (roleOf role) nothing (take k cs)) (brokenClause c)) → Joined cs x (k + 1) w (set sides role r)
-  unfolding hasRole
+  joined-one : {x y w sides : List ℕ} {r j : ℕ} (role : ℕ) → role < 2 → c .role ≡ roleOf role → Joined cs x k y sides
+      → Step x w ((k + 1) * clauseCost (headerOf x .names)) → Step y w j
+      → Has w r (disjunction (joinBroken (roleOf role) nothing (take k cs)) (brokenClause c)) → Joined cs x (k + 1) w (set sides role r)
+  unfolding hasRole withLast
   joined-one {w = w} {sides = sides} {r = r} role small roled h all s new =
       record {
         step = all;
@@ -146,7 +152,8 @@ module _ (cs : List Clause) (k : ℕ) (c : Clause) (inside : k < length cs) (is 
             λ j l. elim (test (eqb j role)) [
               | inl q ↦ let e = eqb-true j role q in
                   subst (λ (i : ℕ). Has w (getD (set sides role r) i 0) (joinBroken (roleOf i) nothing (take (k + 1) cs))) (sym e)
-                  (has-as _ (sym (getD-set-same sides role r 0 (omega (arith, h .two)))) (join-one (roleOf role) true (of role small ∙ eq-eqb role role refl)) new)
+                  (has-as _ (sym (getD-set-same sides role r 0 (omega (arith, h .two))))
+                  (join-one (roleOf role) true (of role small ∙ eq-eqb role role refl)) new)
               | inr q ↦ has-as _ (sym (getD-set-other sides role j r 0 (eqb-false j role q))) (join-one (roleOf j) false (of j l ∙ q)) (has-kept s (h .has j l))
             ];
       }
@@ -169,12 +176,14 @@ joined-next {x} {y} {z} {w} {sides} {n} {c} {b} map nodes clauses k d ready low 
     let e = clause-told map (nodeAt nodes) n d mapped kept ready y z b _ (h .step) (omega (arith, h .step .few)) wrote in
     let o = or-new (e .step .good) (omega (arith, h .step .few, e .step .few)) (has-kept (e .step) (h .has (d .role) role)) (e .has) put in
     let s = steps (e .step) (o .step) in
-    let is = ap (λ (o : StoredClause). disjunction (joinBroken (roleOf (d .role)) nothing (take k (clausesAt nodes clauses c))) (brokenClause (clauseOf (nodeAt nodes) o))) read in
+    let earlier = joinBroken (roleOf (d .role)) nothing (take k (clausesAt nodes clauses c)) in
+    let is = ap (λ (o : StoredClause). disjunction earlier (brokenClause (clauseOf (nodeAt nodes) o))) read in
     joined-one (clausesAt nodes clauses c) k (clauseAt nodes clauses k) (omega (arith, clauses-length nodes clauses c)) (clauses-at nodes clauses c k less)
     (d .role) role (clause-role nodes clauses k d read) h (wider _ (omega arith) (steps (h .step) s)) s (has-as _ refl is (o .has))
 
 -- all joined, and the root, after the nodes of the sheet
-pub joined-done : {x₀ x y z w sides : List ℕ} {t r : ℕ} (nodes clauses : List ℕ) (n k c : ℕ) → k ≡ c → c ≤ 8 → Step x₀ x (copyCosts (nodeAt nodes) n) → count x ≤ 777
+pub joined-done : {x₀ x y z w sides : List ℕ} {t r : ℕ} (nodes clauses : List ℕ) (n k c : ℕ) → k ≡ c → c ≤ 8
+    → Step x₀ x (copyCosts (nodeAt nodes) n) → count x ≤ 777
     → Joined (clausesAt nodes clauses c) x k y sides → Put (node opNot 0 (getD sides 1 0) 0) y z t → Put (node opOr 0 (getD sides 0 0) t) z w r
     → (Emits x₀ w r (requirementCost nodes n c (headerOf x₀ .names)) (translation (clausesAt nodes clauses c))) × (count w ≡ r + 1)
 unfolding translation roleOf requirementCost

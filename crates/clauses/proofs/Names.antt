@@ -1,5 +1,5 @@
 -- Placed names: how a plan over them is written, what it tells, and sets of names as masks.
-use Prim.Native.Nat.{ℕ, zero, suc, _+_, _*_, _/_, _%_, _^_, _≤_, _<_}
+use Prim.Native.Nat.{ℕ, zero, suc, _+_, _*_, _%_, _^_, _≤_, _<_}
 use mathlib.Core.Bool.{Bool, true, false, not, cond, _&&_, _||_, true≢false}
 use mathlib.Core.List.{List}
 use mathlib.Core.Logic.{inl, inr}
@@ -19,7 +19,7 @@ use Rattle.stored.specs.Sheet.{headerOf}
 use Rattle.stored.proofs.Rules.{every-at}
 use Rattle.stored.proofs.Reach.{bit-listed, joint-small}
 use Rattle.emission.specs.Emission.{Ready}
-use Rattle.emission.specs.Plan.{Wrote, there, marked, joined, columned}
+use Rattle.emission.specs.Plan.{Wrote, there, marked, conjoined, columned}
 use Rattle.emission.proofs.Plans.{Tells, tells-within, once-told, and-told, some-told}
 
 -- ---- sets of names as masks
@@ -109,51 +109,55 @@ node-over w z r there = w
 name-over : {x y : List ℕ} {g g′ : Formula} (u : ℕ) (p q : Bool) → Over x y g g′ → Over x y (named u p q g) (named u p q g′)
 unfolding named
 name-over u false q o z r w = o z r w
-name-over u true true o z r (joined marked w put) = joined marked (o _ _ w) put
-name-over u true false o z r (columned (joined marked w put) put′) = columned (joined marked (o _ _ w) put) put′
+name-over u true true o z r (conjoined marked w put) = conjoined marked (o _ _ w) put
+name-over u true false o z r (columned (conjoined marked w put) put′) = columned (conjoined marked (o _ _ w) put) put′
 
-pub placed-over : {x y z : List ℕ} {a r : ℕ} {f : Formula} (before names : Names) → Wrote x y a f → Wrote y z r (placed before names (at a)) → Wrote x z r (placed before names f)
+pub name-over-node : {x y z : List ℕ} {a r : ℕ} {f : Formula} (u : ℕ) (before names : Names) → Wrote x y a f
+    → Wrote y z r (placedName u before names (at a)) → Wrote x z r (placedName u before names f)
+unfolding placedName onceName named
+name-over-node u before names w v = name-over u (names u) (before u) (node-over w) _ _ v
+
+pub placed-over : {x y z : List ℕ} {a r : ℕ} {f : Formula} (before names : Names) → Wrote x y a f
+    → Wrote y z r (placed before names (at a)) → Wrote x z r (placed before names f)
 unfolding placed placedName onceName named
 placed-over before names w v =
     name-over 0 (names 0) (before 0) (name-over 1 (names 1) (before 1) (name-over 2 (names 2) (before 2) (node-over w))) _ _ v
 
-pub name-placed : {x y z : List ℕ} {a r : ℕ} {f : Formula} (u : ℕ) (before names : Names) → Wrote x y a f → Wrote y z r (placedName u before names (at a)) → Wrote x z r (placedName u before names f)
-unfolding placedName onceName named
-name-placed u before names w v = name-over u (names u) (before u) (node-over w) _ _ v
+-- ---- what they tell: two nodes a name, or one where it was placed before
+two-most : (b q : Bool) → cond b (cond q 1 2) 0 ≤ cond b 2 0
+two-most true true = omega arith
+two-most true false = omega arith
+two-most false q = omega arith
 
--- ---- what they tell: two nodes a name, or one where all were placed before
+names-most : (m c : ℕ) → m ≤ 3 → cond (ltb 2 m) c 0 + cond (ltb 1 m) c 0 + cond (ltb 0 m) c 0 ≤ c * m
+names-most zero c h = omega arith
+names-most (suc zero) c h = omega arith
+names-most (suc (suc zero)) c h = omega arith
+names-most (suc (suc (suc zero))) c h = omega arith
+names-most (suc (suc (suc (suc m)))) c h = absurd (omega arith)
+
 module _ {y : List ℕ} (ready : Ready y) where
-  name-told : {f g : Formula} {k : ℕ} (u : ℕ) (p q : Bool) → (p ≡ true → u < headerOf y .names) → Tells y f g k → Tells y (named u p q f) (named u p q g) (k + cond (ltb u (headerOf y .names)) 2 0)
+  name-told : {f g : Formula} {k : ℕ} (u : ℕ) (p q : Bool) → (p ≡ true → u < headerOf y .names) → Tells y f g k
+      → Tells y (named u p q f) (named u p q g) (k + cond (ltb u (headerOf y .names)) (cond q 1 2) 0)
   unfolding named
   name-told {k = k} u false q h t = tells-within _ (omega arith) t
   name-told {k = k} u true true h t =
-      rw (lt-ltb u (headerOf y .names) (h refl)) (tells-within (k + 2) (omega arith) (and-told (once-told ready (h refl)) t))
+      rw (lt-ltb u (headerOf y .names) (h refl)) (tells-within (k + 1) (omega arith) (and-told (once-told ready (h refl)) t))
   name-told {k = k} u true false h t =
       rw (lt-ltb u (headerOf y .names) (h refl)) (tells-within (k + 2) (omega arith) (some-told u (h refl) (and-told (once-told ready (h refl)) t)))
-
-  name-told-once : {f g : Formula} {k : ℕ} (u : ℕ) (p : Bool) → (p ≡ true → u < headerOf y .names) → Tells y f g k → Tells y (named u p true f) (named u p true g) (k + cond (ltb u (headerOf y .names)) 1 0)
-  unfolding named
-  name-told-once {k = k} u false h t = tells-within _ (omega arith) t
-  name-told-once {k = k} u true h t =
-      rw (lt-ltb u (headerOf y .names) (h refl)) (tells-within (k + 1) (omega arith) (and-told (once-told ready (h refl)) t))
-
-  three : (m c : ℕ) → m ≤ 3 → cond (ltb 2 m) c 0 + cond (ltb 1 m) c 0 + cond (ltb 0 m) c 0 ≤ c * m
-  three zero c h = omega arith
-  three (suc zero) c h = omega arith
-  three (suc (suc zero)) c h = omega arith
-  three (suc (suc (suc zero))) c h = omega arith
-  three (suc (suc (suc (suc m)))) c h = absurd (omega arith)
 
   pub placed-told : {f g : Formula} {k : ℕ} (before names : Names) → Inside (headerOf y .names) names → Tells y f g k
       → Tells y (placed before names f) (placed before names g) (k + 2 * headerOf y .names)
   unfolding placed placedName onceName named
-  placed-told {k = k} before names inside t =
-      tells-within _ (omega (arith, three (headerOf y .names) 2 (ready .good .few-names)))
+  placed-told before names inside t =
+      let m = headerOf y .names in
+      let most = names-most m 2 (ready .good .few-names) in
+      tells-within _ (omega (arith, two-most (ltb 0 m) (before 0), two-most (ltb 1 m) (before 1), two-most (ltb 2 m) (before 2)))
       (name-told 0 (names 0) (before 0) (inside 0) (name-told 1 (names 1) (before 1) (inside 1) (name-told 2 (names 2) (before 2) (inside 2) t)))
 
   pub once-placed-told : {f g : Formula} {k : ℕ} (names : Names) → Inside (headerOf y .names) names → Tells y f g k
       → Tells y (once names f) (once names g) (k + headerOf y .names)
   unfolding once placed placedName onceName everyName named
-  once-placed-told {k = k} names inside t =
-      tells-within _ (omega (arith, three (headerOf y .names) 1 (ready .good .few-names)))
-      (name-told-once 0 (names 0) (inside 0) (name-told-once 1 (names 1) (inside 1) (name-told-once 2 (names 2) (inside 2) t)))
+  once-placed-told names inside t =
+      tells-within _ (omega (arith, names-most (headerOf y .names) 1 (ready .good .few-names)))
+      (name-told 0 (names 0) true (inside 0) (name-told 1 (names 1) true (inside 1) (name-told 2 (names 2) true (inside 2) t)))

@@ -1,5 +1,5 @@
 -- A node copied by the map stands for the node of the sheet.
-use Prim.Native.Nat.{ℕ, suc, _+_, _*_, _/_, _%_, _≤_, _<_}
+use Prim.Native.Nat.{ℕ, suc, _+_, _*_, _/_, _≤_, _<_}
 use mathlib.Core.Bool.{Bool, true, false, not, cond, _&&_, _||_, true≢false, false≢true}
 use mathlib.Core.List.{List}
 use mathlib.Core.Logic.{inl, inr}
@@ -26,7 +26,6 @@ use Rattle.stored.proofs.Rules.{every-number}
 use Rattle.stored.proofs.Tree.{proposition-cases, formula-cases, operands, proposition-law, formula-law}
 use Rattle.emission.specs.Bound.{mostNodes, isDrawing, drawingAt}
 use Rattle.emission.specs.Emission.{count, propositionIn, formulaIn, Good, Step, HasProposition, Has, Emits, Ready}
-use Rattle.emission.specs.Plan.{Wrote}
 use Rattle.emission.specs.Copying.{Stands, Mapped, mappedTo, copiedNode, noPropositions, noFormulas, drawingOf, Copied, byOthers, itself, copyCost, copyCosts, NodesIn}
 use Rattle.emission.proofs.Steps.{stay, steps, wider, has-kept, proposition-kept, ready-kept, Addable, Added, put-added}
 use Rattle.emission.proofs.Nodes.{of-formula, of-proposition, new-proposition, new-formula}
@@ -157,7 +156,9 @@ no-gap : (n : Node) → isDrawing n ≡ false → n .op ≡ 29 → ⊥
 unfolding isDrawing
 no-gap n e f = true≢false (sym (ap (λ (k : ℕ). leb 27 k && leb k 29) f) ∙ e)
 
-pub may-copy : {x : ℕ → Node} {y map : List ℕ} (n : Node) → Good y → count y < mostNodes → NodeFits n → isDrawing n ≡ false → fieldsRight requirementSorts (headerOf y .signals) (headerOf y .names) n ≡ true → Given x y map (aUse (n .op)) (n .a) → Given x y map (bUse (n .op)) (n .b) → Addable y (copiedNode map n)
+may-copy : {x : ℕ → Node} {y map : List ℕ} (n : Node) → Good y → count y < mostNodes → NodeFits n → isDrawing n ≡ false
+    → fieldsRight requirementSorts (headerOf y .signals) (headerOf y .names) n ≡ true
+    → Given x y map (aUse (n .op)) (n .a) → Given x y map (bUse (n .op)) (n .b) → Addable y (copiedNode map n)
 unfolding copiedNode fieldsRight
 may-copy {x} {y} {map} n good room fits plain right a b =
     let s = headerOf y .signals in
@@ -239,7 +240,9 @@ copied-formula map n p p′ f f′ k =
     k
     (λ other d e g h. ap (λ (o : FormulaOp). formulaOf o (copiedAs map k n) p′ f′) other ∙ sym (ap (λ (o : FormulaOp). undrawn (formulaOf o n p f)) other))
 
-pub copied-stands : {x : ℕ → Node} {i : ℕ} {y z map : List ℕ} {r : ℕ} → operandsRight requirementSorts x i ≡ true → (sortOf requirementSorts (x i .op) ≡ 0 → ⊥) → isDrawing (x i) ≡ false → Given x y map (aUse (x i .op)) (x i .a) → Given x y map (bUse (x i .op)) (x i .b) → Added y z r (copiedNode map (x i)) → Stands x i z r
+copied-stands : {x : ℕ → Node} {i : ℕ} {y z map : List ℕ} {r : ℕ} → operandsRight requirementSorts x i ≡ true
+    → (sortOf requirementSorts (x i .op) ≡ 0 → ⊥) → isDrawing (x i) ≡ false
+    → Given x y map (aUse (x i .op)) (x i .a) → Given x y map (bUse (x i .op)) (x i .b) → Added y z r (copiedNode map (x i)) → Stands x i z r
 unfolding copiedNode copiedAs CopiedProposition CopiedFormula isDrawing
 copied-stands {x} {i} {y} {z} {map} {r} kept some plain a b new =
     let sort = sort-copied (x i) plain some in
@@ -286,7 +289,8 @@ drawn-alike : (n : Node) (p : ℕ → Proposition) (f : ℕ → Formula) → isD
 unfolding DrawnAlike sortOf formulaOf formulaOp
 drawn-alike n p f e = drawing-cases (DrawnAlike n p f) (refl, refl) (refl, refl) (refl, refl) n e
 
-pub drawing-stands : {x : ℕ → Node} {i : ℕ} {y z : List ℕ} {r k : ℕ} → operandsRight requirementSorts x i ≡ true → isDrawing (x i) ≡ true → Emits y z r k (drawingOf (x i)) → Stands x i z r
+drawing-stands : {x : ℕ → Node} {i : ℕ} {y z : List ℕ} {r k : ℕ} → operandsRight requirementSorts x i ≡ true → isDrawing (x i) ≡ true
+    → Emits y z r k (drawingOf (x i)) → Stands x i z r
 unfolding drawingOf DrawnAlike
 drawing-stands {x} {i} kept drawing e =
     let alike = drawn-alike (x i) (propositionAt x) (formulaAt x) drawing in
@@ -308,7 +312,8 @@ mapped-kept x i map s h j l =
       formula = λ e. has-kept s (h j l .formula e);
     }
 
-pub mapped-next : {y : List ℕ} {r : ℕ} (x : ℕ → Node) (i : ℕ) (map : List ℕ) → i < length map → Mapped x i y map → Stands x i y r → Mapped x (i + 1) y (set map i r)
+mapped-next : {y : List ℕ} {r : ℕ} (x : ℕ → Node) (i : ℕ) (map : List ℕ) → i < length map → Mapped x i y map
+    → Stands x i y r → Mapped x (i + 1) y (set map i r)
 unfolding entryOf
 mapped-next {y} {r} x i map fits h new j l =
     elim (test (eqb j i)) [
@@ -383,7 +388,7 @@ copied {y} {z} x i ready room right kept mapped (itself plain fits put) =
     (subst (λ (b : Bool). Step y z (cond b 12 1)) (sym plain) (new .step), copied-stands kept (some-sort _ _ (x i) right) plain a b new)
 
 -- one turn of the loop over the n nodes of a sheet
-pub copied-next : {x y z map nodes : List ℕ} {n r : ℕ} (i : ℕ) → Ready x → count x + 780 ≤ mostNodes → NodesIn x nodes n → i < n → length map ≡ 64
+pub copied-next : {x y z map nodes : List ℕ} {n r : ℕ} (i : ℕ) → Ready x → count x + 768 ≤ mostNodes → NodesIn x nodes n → i < n → length map ≡ 64
     → Step x y (copyCosts (nodeAt nodes) i) → Mapped (nodeAt nodes) i y map → Copied map (nodeAt nodes i) y z r
     → (Step x z (copyCosts (nodeAt nodes) (i + 1))) × (Mapped (nodeAt nodes) (i + 1) z (set map i r))
 copied-next {y = y} {map = map} {nodes = nodes} i ready room sheet less long s mapped new =

@@ -42,7 +42,8 @@ module _ {x y : List ℕ} {r : ℕ} {n : Node} (new : Added x y r n) where
   new-below : r < count y
   new-below = omega (arith, new .exact, new .place)
 
-  pub new-proposition : (p : Proposition) → sortOf emittedSorts (n .op) ≡ 1 → propositionOf (propositionOp (n .op)) n (propositionIn y) ≡ p → EmitsProposition x y r 1 p
+  pub new-proposition : (p : Proposition) → sortOf emittedSorts (n .op) ≡ 1
+      → propositionOf (propositionOp (n .op)) n (propositionIn y) ≡ p → EmitsProposition x y r 1 p
   unfolding propositionIn
   new-proposition p s e =
       record {
@@ -58,7 +59,8 @@ module _ {x y : List ℕ} {r : ℕ} {n : Node} (new : Added x y r n) where
             };
       }
 
-  pub new-formula : (f : Formula) → sortOf emittedSorts (n .op) ≡ 2 → formulaOf (formulaOp (n .op)) n (propositionIn y) (formulaIn y) ≡ f → Emits x y r 1 f
+  pub new-formula : (f : Formula) → sortOf emittedSorts (n .op) ≡ 2
+      → formulaOf (formulaOp (n .op)) n (propositionIn y) (formulaIn y) ≡ f → Emits x y r 1 f
   unfolding propositionIn formulaIn
   new-formula f s e =
       record {
@@ -95,7 +97,9 @@ module _ {x : List ℕ} (good : Good x) (room : count x < mostNodes) where
       → sortOf emittedSorts op ≡ 2 → ((p : ℕ → Proposition) (h : ℕ → Formula) → formulaOf (formulaOp op) (node op 0 a b) p h ≡ t (h a) (h b))
       → Has x a f → Has x b g → Put (node op 0 a b) x y r → Emits x y r 1 (t f g)
   pair-new {y} {a = a} {b = b} op t o right i j sort made h k put =
-      let new = put-added (may op 0 a b o (omega arith) (omega (arith, h .below)) (omega (arith, k .below)) right (rw i (of-formula h)) (rw j (of-formula k))) put in
+      let first = of-formula h in
+      let second = of-formula k in
+      let new = put-added (may op 0 a b o (omega arith) (omega arith) (omega arith) right (rw i first) (rw j second)) put in
       new-formula new _ sort (made (propositionIn y) (formulaIn y) ∙ ap₂ t (has-kept (new .step) h .tree) (has-kept (new .step) k .tree))
 
   pub chop-new : {y : List ℕ} {r a b : ℕ} {f g : Formula} → Has x a f → Has x b g → Put (node opChop 0 a b) x y r → Emits x y r 1 (chop f g)
@@ -168,10 +172,12 @@ module _ {x : List ℕ} (good : Good x) (room : count x < mostNodes) where
   unfolding ruled
   signal-new {k = k} l put =
       let small : k < 65536 = omega (arith, good .few-signals) in
-      new-proposition (put-added (may opSignal 0 k 0 (omega arith) (omega arith) small (omega arith) (rw (lt-ltb k (headerOf x .signals) l)) refl refl) put) _ refl refl
+      let right = lt-ltb k (headerOf x .signals) l in
+      new-proposition (put-added (may opSignal 0 k 0 (omega arith) (omega arith) small (omega arith) (rw right) refl refl) put) _ refl refl
 
   pub name-new : {y : List ℕ} {r u : ℕ} → u < headerOf x .names → Put (node opName 0 u 0) x y r → EmitsProposition x y r 1 (name u)
   unfolding ruled
   name-new {u = u} l put =
       let small : u < 65536 = omega (arith, good .few-names) in
-      new-proposition (put-added (may opName 0 u 0 (omega arith) (omega arith) small (omega arith) (rw (lt-ltb u (headerOf x .names) l)) refl refl) put) _ refl refl
+      let right = lt-ltb u (headerOf x .names) l in
+      new-proposition (put-added (may opName 0 u 0 (omega arith) (omega arith) small (omega arith) (rw right) refl refl) put) _ refl refl

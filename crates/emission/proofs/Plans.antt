@@ -10,7 +10,8 @@ use Rattle.stored.specs.Tree.{comparisonOf}
 use Rattle.stored.specs.Sheet.{headerOf}
 use Rattle.emission.specs.Bound.{mostNodes}
 use Rattle.emission.specs.Emission.{count, Step, Has, Emits, Ready}
-use Rattle.emission.specs.Plan.{node, opLength, qAtLeast, Put, WroteProposition, named, signalled, negatedOf, Wrote, there, everywhere, longer, marked, noMore, exactly, noLess, pointed, stretched, united, chopped, joined, either, denied, columned}
+use Rattle.emission.specs.Plan.{node, opLength, qAtLeast, Put, WroteProposition, named, signalled, negatedOf}
+use Rattle.emission.specs.Plan.{Wrote, there, everywhere, longer, marked, noMore, exactly, noLess, pointed, stretched, united, chopped, conjoined, disjoined, denied, columned}
 use Rattle.emission.proofs.Steps.{stay, steps, has-kept, proposition-kept, ready-kept, after, within-cost}
 use Rattle.emission.proofs.Nodes.{EmitsProposition, chop-new, and-new, or-new, not-new, some-new, point-new, stretch-new, unit-new, length-new, signal-new, negated-new}
 
@@ -80,12 +81,12 @@ module _ {y : List ℕ} where
       after (b .step) (chop-new (b .step .good) (omega arith) (b .first) (b .second) put)
 
   pub and-told : {p q f g : Formula} {j k : ℕ} → Tells y p f j → Tells y q g k → Tells y (conjunction p q) (conjunction f g) (j + k + 1)
-  and-told s t x z r i step room (joined v w put) =
+  and-told s t x z r i step room (conjoined v w put) =
       let b = two s t step room v w in
       after (b .step) (and-new (b .step .good) (omega arith) (b .first) (b .second) put)
 
   pub or-told : {p q f g : Formula} {j k : ℕ} → Tells y p f j → Tells y q g k → Tells y (disjunction p q) (disjunction f g) (j + k + 1)
-  or-told s t x z r i step room (either v w put) =
+  or-told s t x z r i step room (disjoined v w put) =
       let b = two s t step room v w in
       after (b .step) (or-new (b .step .good) (omega arith) (b .first) (b .second) put)
 

@@ -297,7 +297,8 @@ fits-made x n h =
 pub put-none : {x : List ℕ} {n : Node} → fits x n ≡ false → Put n x x 0
 put-none e = record { bytes = rw e; root = rw e }
 
-pub put-made : {x y z : List ℕ} {n : Node} {s m k : ℕ} → fits x n ≡ true → s ≡ getD x 4 0 → m ≡ getD x 5 0 → k ≡ count x → y ≡ putNode x k n → z ≡ putHeader y s m (k + 1) → Put n x z k
+pub put-made : {x y z : List ℕ} {n : Node} {s m k : ℕ} → fits x n ≡ true → s ≡ getD x 4 0 → m ≡ getD x 5 0 → k ≡ count x
+    → y ≡ putNode x k n → z ≡ putHeader y s m (k + 1) → Put n x z k
 unfolding appended headerOf
 put-made e es em ek ey ez = record { bytes = rw e (rw (ez, ey, es, em, ek)); root = rw e ek }
 
@@ -307,7 +308,8 @@ written {x} {n} good room fields = fits-made x n (record { long = good .long; fi
 root-is : {x y : List ℕ} {r : ℕ} {n : Node} → fits x n ≡ true → Put n x y r → r ≡ count x
 root-is {x} e put = put .root ∙ ap (λ (b : Bool). cond b (count x) 0) e
 
-pub put-place : {x y : List ℕ} {r op q a b : ℕ} → Good x → count x < mostNodes → op < 256 → q < 256 → a < 65536 → b < 65536 → Put (node op q a b) x y r → r ≡ count x
+pub put-place : {x y : List ℕ} {r op q a b : ℕ} → Good x → count x < mostNodes → op < 256 → q < 256 → a < 65536 → b < 65536
+    → Put (node op q a b) x y r → r ≡ count x
 put-place good room o q a b put = root-is (written good room (record { op-fits = o; q-fits = q; a-fits = a; b-fits = b })) put
 
 pub put-added : {x y : List ℕ} {r : ℕ} {n : Node} → Addable x n → Put n x y r → Added x y r n

@@ -66,7 +66,7 @@ fn copy_node(out: &mut [u8], map: &[usize], nodes: &[u8], i: usize) -> usize
 
 // The map from the sheet's n nodes to the nodes that stand for them.
 pub fn copy_nodes(out: &mut [u8], nodes: &[u8], n: usize) -> [usize; 64]
-    requires { ⌜ (Ready (now out)) × (count (now out) + 780 ≤ mostNodes) × (NodesIn (now out) (now nodes) n) ⌝ }
+    requires { ⌜ (Ready (now out)) × (count (now out) + 768 ≤ mostNodes) × (NodesIn (now out) (now nodes) n) ⌝ }
     ensures { λ r. ⌜ (Step (now (out .entry)) (now (out .exit)) (copyCosts (nodeAt (now (nodes .entry))) n)) × (Mapped (nodeAt (now (nodes .entry))) n (now (out .exit)) r) ⌝ }
 {
     let mut map = [0usize; 64];

@@ -1,7 +1,7 @@
 -- `clauses::clause::put_implies` meets its contract.
 use borrow.Author.Needs.{needs}
 use Rattle.semantics.specs.Translation.{anywhere, brokenOf}
-use Rattle.emission.specs.Plan.{there, everywhere, chopped, joined, denied}
+use Rattle.emission.specs.Plan.{there, everywhere, chopped, conjoined, denied}
 use Rattle.emission.proofs.Calls.{free}
 use Rattle.clauses.proofs.Names.{placed-over}
 use Rattle.clauses.proofs.clause.put_implies.Statement.{statement}
@@ -19,7 +19,7 @@ returns c =
     let c2 = c3 .before .before .before .before in
     let c1 = c2 .before .before .before .before in
     let missed = denied (c1 .put-placed .ensures) (c2 .put-not .ensures) in
-    let unanswered = joined there missed (c3 .put-and .ensures) in
+    let unanswered = conjoined there missed (c3 .put-and .ensures) in
     let started = chopped (placed-over _ _ unanswered (c4 .put-fresh .ensures)) everywhere (c5 .put-chop .ensures) in
     chopped everywhere started (c .before .before .put-chop2 .ensures)
 

@@ -1,7 +1,7 @@
 -- `clauses::clause::put_init` meets its contract.
 use borrow.Author.Needs.{needs}
 use Rattle.semantics.specs.Translation.{anywhere, brokenOf}
-use Rattle.emission.specs.Plan.{there, everywhere, chopped, joined, denied}
+use Rattle.emission.specs.Plan.{there, everywhere, chopped, conjoined, denied}
 use Rattle.emission.proofs.Calls.{free}
 use Rattle.clauses.proofs.Names.{placed-over}
 use Rattle.clauses.proofs.clause.put_init.Statement.{statement}
@@ -19,7 +19,7 @@ returns c =
     let c2 = c3 .before .before .before .before in
     let c1 = c2 .before .before .before .before in
     let missed = denied (chopped (c1 .put-placed .ensures) everywhere (c2 .put-chop .ensures)) (c3 .put-not .ensures) in
-    let unanswered = joined there missed (c4 .put-and .ensures) in
+    let unanswered = conjoined there missed (c4 .put-and .ensures) in
     chopped (placed-over _ _ unanswered (c5 .put-fresh .ensures)) everywhere (c .before .before .put-chop2 .ensures)
 
 pub put-init-spec : {M : Type 1} → statement M

@@ -1,7 +1,7 @@
 -- `clauses::clause::put_triggers` meets its contract.
 use borrow.Author.Needs.{needs}
 use Rattle.semantics.specs.Translation.{anywhere, brokenOf}
-use Rattle.emission.specs.Plan.{everywhere, chopped, joined}
+use Rattle.emission.specs.Plan.{everywhere, chopped, conjoined}
 use Rattle.emission.proofs.Calls.{free}
 use Rattle.clauses.proofs.Names.{joined-union, placed-over}
 use Rattle.clauses.proofs.clause.put_triggers.Statement.{statement}
@@ -26,7 +26,7 @@ returns c =
     let start = c0 .before .before in
     let first = chopped (c1 .put-once .ensures) everywhere (c2 .put-chop .ensures) in
     let later = chopped (c3 .put-unanswered .ensures) everywhere (c4 .put-chop2 .ensures) in
-    let both = joined first later (c5 .put-and .ensures) in
+    let both = conjoined first later (c5 .put-and .ensures) in
     let placed = rw (joined-union (start .pre .0) (start .pre .1) (c0 .both .ensures)) at (c6 .put-fresh .ensures) in
     chopped everywhere (placed-over _ _ both placed) (c .before .before .put-chop3 .ensures)
 

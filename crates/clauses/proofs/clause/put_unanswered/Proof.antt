@@ -1,7 +1,7 @@
 -- `clauses::clause::put_unanswered` meets its contract.
 use borrow.Author.Needs.{needs}
 use Rattle.semantics.specs.Translation.{anywhere, once, unansweredOf}
-use Rattle.emission.specs.Plan.{everywhere, chopped, joined, denied}
+use Rattle.emission.specs.Plan.{everywhere, chopped, conjoined, denied}
 use Rattle.emission.proofs.Calls.{free}
 use Rattle.clauses.proofs.Names.{joined-union, placed-over}
 use Rattle.clauses.proofs.clause.put_unanswered.Statement.{statement}
@@ -23,7 +23,7 @@ returns c =
     let ended = placed-over _ _ (c1 .put-shortest .ensures) (c2 .put-once .ensures) in
     let given = rw (joined-union (start .pre .0) (start .pre .1) (c0 .both .ensures)) at (c3 .put-placed .ensures) in
     let missed = denied (chopped given everywhere (c4 .put-chop .ensures)) (c5 .put-not .ensures) in
-    joined ended missed (c .before .before .put-and .ensures)
+    conjoined ended missed (c .before .before .put-and .ensures)
 
 pub put-unanswered-spec : {M : Type 1} → statement M
 put-unanswered-spec = tie.close (tie.spec free free free free free free free same-length returns)

@@ -4,7 +4,7 @@ use borrow.Author.Needs.{needs}
 use borrow.Author.Tests.{not-true, not-false}
 use native.Mathlib.Omega.{arith}
 use Rattle.semantics.specs.Translation.{onceName, placedName}
-use Rattle.emission.specs.Plan.{there, marked, joined, columned}
+use Rattle.emission.specs.Plan.{there, marked, conjoined, columned}
 use Rattle.emission.proofs.Calls.{free}
 use Rattle.clauses.proofs.placing.put_name.Statement.{statement}
 use Rattle.clauses.proofs.placing.put_name.Tie as tie
@@ -33,7 +33,8 @@ unfolding placedName onceName
 returns-2 c =
     let c1 = c .before .before .before .before in
     let c0 = c1 .before .before in
-    rw (sym (c0 .before .has .ensures) ∙ not-false _ (c0 .if1 .left), sym (c .before .has2 .ensures) ∙ c .if2 .taken) (joined marked there (c1 .put-and .ensures))
+    rw (sym (c0 .before .has .ensures) ∙ not-false _ (c0 .if1 .left), sym (c .before .has2 .ensures) ∙ c .if2 .taken)
+    (conjoined marked there (c1 .put-and .ensures))
 
 same-length-2 : tie.Need-same-length-2
 same-length-2 c = search needs
@@ -45,7 +46,7 @@ returns-3 c =
     let c1 = c2 .before .before .before .before in
     let c0 = c1 .before .before in
     rw (sym (c0 .before .has .ensures) ∙ not-false _ (c0 .if1 .left), sym (c2 .before .has2 .ensures) ∙ c2 .if2 .left)
-    (columned (joined marked there (c1 .put-and .ensures)) (c .before .before .put-some .ensures))
+    (columned (conjoined marked there (c1 .put-and .ensures)) (c .before .before .put-some .ensures))
 
 pub put-name-spec : {M : Type 1} → statement M
 put-name-spec =

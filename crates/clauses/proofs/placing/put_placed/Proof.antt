@@ -2,7 +2,7 @@
 use borrow.Author.Needs.{needs}
 use native.Mathlib.Omega.{arith}
 use Rattle.semantics.specs.Translation.{placed}
-use Rattle.clauses.proofs.Names.{name-placed}
+use Rattle.clauses.proofs.Names.{name-over-node}
 use Rattle.clauses.proofs.placing.put_placed.Statement.{statement}
 use Rattle.clauses.proofs.placing.put_placed.Tie as tie
 
@@ -23,8 +23,8 @@ unfolding placed
 returns c =
     let c2 = c .before .before .before .before .before .before in
     let c1 = c2 .before .before .before .before in
-    let second = name-placed 1 _ _ (c1 .put-name .ensures) (c2 .put-name2 .ensures) in
-    name-placed 0 _ _ second (c .before .before .put-name3 .ensures)
+    let second = name-over-node 1 _ _ (c1 .put-name .ensures) (c2 .put-name2 .ensures) in
+    name-over-node 0 _ _ second (c .before .before .put-name3 .ensures)
 
 pub put-placed-spec : {M : Type 1} → statement M
 put-placed-spec = tie.close (tie.spec put-name-requires put-name-requires-2 put-name-requires-3 same-length returns)

@@ -2,7 +2,7 @@
 use borrow.Author.Needs.{needs}
 use native.Mathlib.Omega.{arith}
 use Rattle.semantics.specs.Translation.{anywhere, undrawnGap}
-use Rattle.emission.specs.Plan.{named, everywhere, noMore, pointed, chopped, joined}
+use Rattle.emission.specs.Plan.{named, everywhere, noMore, pointed, chopped, conjoined}
 use Rattle.emission.proofs.Calls.{free}
 use Rattle.emission.proofs.drawing.put_gap.Statement.{statement}
 use Rattle.emission.proofs.drawing.put_gap.Tie as tie
@@ -33,9 +33,9 @@ returns c =
     let c2 = c3 .before .before .before .before in
     let c1 = c2 .before .before .before .before in
     let start = pointed named (c1 .put-point .ensures) in
-    let range = joined (c2 .put-least .ensures) (noMore (c3 .put-length .ensures)) (c4 .put-and .ensures) in
+    let range = conjoined (c2 .put-least .ensures) (noMore (c3 .put-length .ensures)) (c4 .put-and .ensures) in
     let end = pointed named (c6 .put-point2 .ensures) in
-    chopped everywhere (chopped (joined start range (c5 .put-and2 .ensures)) end (c7 .put-chop .ensures)) (c .before .before .put-chop2 .ensures)
+    chopped everywhere (chopped (conjoined start range (c5 .put-and2 .ensures)) end (c7 .put-chop .ensures)) (c .before .before .put-chop2 .ensures)
 
 pub put-gap-spec : {M : Type 1} → statement M
 put-gap-spec =

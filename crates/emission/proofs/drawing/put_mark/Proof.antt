@@ -2,7 +2,7 @@
 use borrow.Author.Needs.{needs}
 use native.Mathlib.Omega.{arith}
 use Rattle.semantics.specs.Translation.{undrawnMark}
-use Rattle.emission.specs.Plan.{named, exactly, pointed, joined}
+use Rattle.emission.specs.Plan.{named, exactly, pointed, conjoined}
 use Rattle.emission.proofs.Calls.{free}
 use Rattle.emission.proofs.drawing.put_mark.Statement.{statement}
 use Rattle.emission.proofs.drawing.put_mark.Tie as tie
@@ -21,7 +21,7 @@ unfolding undrawnMark
 returns c =
     let c2 = c .before .before .before .before .before .before in
     let c1 = c2 .before .before .before .before in
-    joined (exactly (c1 .put-length .ensures)) (pointed named (c2 .put-point .ensures)) (c .before .before .put-and .ensures)
+    conjoined (exactly (c1 .put-length .ensures)) (pointed named (c2 .put-point .ensures)) (c .before .before .put-and .ensures)
 
 pub put-mark-spec : {M : Type 1} → statement M
 put-mark-spec = tie.close (tie.spec free mul-put-point add-put-point free free same-length returns)

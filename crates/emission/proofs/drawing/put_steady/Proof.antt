@@ -1,7 +1,7 @@
 -- `emission::drawing::put_steady` meets its contract.
 use borrow.Author.Needs.{needs}
 use Rattle.semantics.specs.Translation.{undrawnSymbol}
-use Rattle.emission.specs.Plan.{signalled, stretched, either}
+use Rattle.emission.specs.Plan.{signalled, stretched, disjoined}
 use Rattle.emission.proofs.Calls.{free}
 use Rattle.emission.proofs.drawing.put_steady.Statement.{statement}
 use Rattle.emission.proofs.drawing.put_steady.Tie as tie
@@ -18,7 +18,7 @@ returns c =
     let c1 = c2 .before .before .before .before in
     let low = stretched (c1 .put-low .ensures) (c2 .put-stretch .ensures) in
     let high = stretched (signalled (c3 .put-signal .ensures)) (c4 .put-stretch2 .ensures) in
-    either low high (c .before .before .put-or .ensures)
+    disjoined low high (c .before .before .put-or .ensures)
 
 pub put-steady-spec : {M : Type 1} → statement M
 put-steady-spec = tie.close (tie.spec free free free free free same-length returns)

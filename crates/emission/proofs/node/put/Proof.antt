@@ -43,7 +43,8 @@ put-header-requires : tie.Need-put-header-requires
 put-header-requires c κs =
     let d = c .before .before .before .before .before in
     let f = known (d .before .before .before .before .before .before) in
-    (omega (arith, f .long), d .before .before .before .before .byte .ensures .1, d .before .before .byte2 .ensures .1, omega (arith, f .room, d .count .ensures .0))
+    let e = d .before .before in
+    (omega (arith, f .long), e .before .before .byte .ensures .1, e .byte2 .ensures .1, omega (arith, f .room, d .count .ensures .0))
 
 same-length-2 : tie.Need-same-length-2
 same-length-2 c = search needs
@@ -53,7 +54,8 @@ returns-2 c =
     let d = c .before .before .before .before .before .before .before .before in
     let e = d .before .before in
     let f = e .before .before .before .before in
-    put-made (sym (f .before .fits2 .ensures) ∙ not-false _ (f .if1 .left)) (e .before .before .byte .ensures .0) (e .byte2 .ensures .0) (d .count .ensures .0)
+    put-made (sym (f .before .fits2 .ensures) ∙ not-false _ (f .if1 .left))
+    (e .before .before .byte .ensures .0) (e .byte2 .ensures .0) (d .count .ensures .0)
     (c .before .before .before .before .before .before .put-node .ensures) (c .before .before .put-header .ensures)
 
 pub put-spec : {M : Type 1} → statement M
