@@ -396,6 +396,7 @@ copied-next {y = y} {map = map} {nodes = nodes} i ready room sheet less long s m
     let right : fieldsRight requirementSorts (headerOf y .signals) (headerOf y .names) (nodeAt nodes i) ≡ true
     = rw (s .signals, s .names) (sheet .fields i less)
     in
-    let e = copied (nodeAt nodes) i (ready-kept s ready) (omega (arith, s .few, costs-most (nodeAt nodes) i)) right (sheet .operands i less) mapped new in
-    (wider _ (omega (arith, cost-next (nodeAt nodes) i)) (steps s (e .0)),
-      mapped-next (nodeAt nodes) i map (omega arith) (mapped-kept (nodeAt nodes) i map (e .0) mapped) (e .1))
+    let e = copied (nodeAt nodes) i (ready-kept s ready) (omega (arith, s .few, costs-most (nodeAt nodes) i)) right (sheet .operands i less) mapped new in (
+      wider _ (omega (arith, cost-next (nodeAt nodes) i)) (steps s (e .0)),
+      mapped-next (nodeAt nodes) i map (omega arith) (mapped-kept (nodeAt nodes) i map (e .0) mapped) (e .1),
+    )

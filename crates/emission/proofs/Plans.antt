@@ -1,4 +1,4 @@
--- What a plan tells, and by how many nodes: said once for each op, of any bytes after y, so that earlier nodes stay is used here alone.
+-- What a plan tells, and by how many nodes: one law an op, of any bytes after y.
 use Prim.Native.Nat.{ℕ, zero, suc, _+_, _≤_, _<_}
 use mathlib.Core.List.{List}
 use mathlib.Core.Path.{_≡_, refl}

@@ -10,13 +10,13 @@ use Rattle.semantics.specs.Proposition.{name}
 use Rattle.semantics.specs.Formula.{Formula, equal, slen, scount}
 use Rattle.semantics.specs.Translation.{anywhere, extended, nothing}
 use Rattle.semantics.proofs.Tests.{test}
+use Rattle.stored.specs.Sheet.{headerOf}
 use Rattle.stored.specs.Tree.{comparisonOf}
 use Rattle.emission.specs.Bound.{mostNodes}
 use Rattle.emission.specs.Emission.{count, Good, Step, HasProposition, Has, Emits, Shared}
 use Rattle.emission.specs.Plan.{node, opName, opLength, opCount, qBelow, qEqual, qAtLeast, qAbove, Put}
 use Rattle.emission.proofs.Steps.{steps, has-kept, proposition-kept, shared-kept, put-place}
 use Rattle.emission.proofs.Nodes.{length-new, name-new, count-new}
-use Rattle.stored.specs.Sheet.{headerOf}
 
 -- a length comes as the next node
 record Length (x y : List ℕ) (r q : ℕ) : Type 0 where
@@ -68,20 +68,22 @@ shared-next {x} {y} {z} {p} {r} u h e less put put′ =
     in
     let here : HasProposition z (3 + 2 * u) (name u) = subst (λ (i : ℕ). HasProposition z i (name u)) (at ∙ e) (proposition-kept (b .step) (a .has)) in
     let there : Has z (4 + 2 * u) (scount equal (name u) 1) = has-at _ (omega arith) (b .has) in (
-    record {
-      good = s .good;
-      everywhere = old .everywhere;
-      longer = old .longer;
-      never = old .never;
-      named =
-          λ v l. elim (test (eqb v u)) [
-            | inl q ↦ subst (λ (w : ℕ). HasProposition z (3 + 2 * w) (name w)) (sym (eqb-true v u q)) here
-            | inr q ↦ let other = eqb-false v u q in old .named v (omega arith)
-          ];
-      once =
-          λ v l. elim (test (eqb v u)) [
-            | inl q ↦ subst (λ (w : ℕ). Has z (4 + 2 * w) (scount equal (name w) 1)) (sym (eqb-true v u q)) there
-            | inr q ↦ let other = eqb-false v u q in old .once v (omega arith)
-          ];
-    },
-    omega arith, s)
+      record {
+        good = s .good;
+        everywhere = old .everywhere;
+        longer = old .longer;
+        never = old .never;
+        named =
+            λ v l. elim (test (eqb v u)) [
+              | inl q ↦ subst (λ (w : ℕ). HasProposition z (3 + 2 * w) (name w)) (sym (eqb-true v u q)) here
+              | inr q ↦ let other = eqb-false v u q in old .named v (omega arith)
+            ];
+        once =
+            λ v l. elim (test (eqb v u)) [
+              | inl q ↦ subst (λ (w : ℕ). Has z (4 + 2 * w) (scount equal (name w) 1)) (sym (eqb-true v u q)) there
+              | inr q ↦ let other = eqb-false v u q in old .once v (omega arith)
+            ];
+      },
+      omega arith,
+      s,
+    )

@@ -95,10 +95,12 @@ pub data WroteProposition : List ℕ → List ℕ → ℕ → Proposition → Ty
   negatedOf : {x y z : List ℕ} {a r : ℕ} {p : Proposition} → WroteProposition x y a p → Put (node opNegated 0 a 0) y z r → WroteProposition x z r (negated p)
 
 pub data Wrote : List ℕ → List ℕ → ℕ → Formula → Type 0 where
+  -- there already
   there : {x : List ℕ} {a : ℕ} → Wrote x x a (at a)
   everywhere : {x : List ℕ} → Wrote x x 0 (slen atLeast 0)
   longer : {x : List ℕ} → Wrote x x 1 (slen above 0)
   marked : {x : List ℕ} {u : ℕ} → Wrote x x (4 + 2 * u) (scount equal (name u) 1)
+  -- one node, or one node more
   noMore : {x y : List ℕ} {r n : ℕ} → Put (node opLength qAtMost 0 n) x y r → Wrote x y r (slen atMost n)
   exactly : {x y : List ℕ} {r n : ℕ} → Put (node opLength qEqual 0 n) x y r → Wrote x y r (slen equal n)
   noLess : {x y : List ℕ} {r n : ℕ} → Put (node opLength qAtLeast 0 (suc n)) x y r → Wrote x y r (slen atLeast (suc n))

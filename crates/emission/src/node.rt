@@ -49,7 +49,7 @@ pub const AT_LEAST: usize = 3;
 
 pub const ABOVE: usize = 4;
 
-// The output that document 01 asks for, and the most nodes that a formula may take.
+// The output that document 01 asks for, and its bound on a formula's nodes at its largest.
 const BYTES: usize = 8192;
 
 const NODES: usize = 1025;

@@ -85,10 +85,11 @@ loop-again c =
     let copy = at .before .before .before in
     let start = copy .before .before .before .before .before in
     let sheet = clauses-kept (copy .copy-nodes .ensures .0) (start .pre .3) in
-    let less = turn .loop-test .taken in
-    (omega arith,
+    let less = turn .loop-test .taken in (
+      omega arith,
       joined-next _ _ _ _ _ (copied copy .0) (copied copy .1) sheet (copy .copy-nodes .ensures .1) less (d .stored-at .ensures)
-      (at .loop .inv .1) (clause .put-clause .ensures) (put .put-or .ensures))
+          (at .loop .inv .1) (clause .put-clause .ensures) (put .put-or .ensures),
+    )
 
 array-read-assumed : tie.Need-array-read-assumed Inv-loop μ-loop
 array-read-assumed c = omega (arith, c .before .loop .inv .1 .two)
