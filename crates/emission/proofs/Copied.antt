@@ -47,7 +47,7 @@ same-sort =
     past false = refl
 
 -- an op of kind 1 that is no drawing has the same sort in kind 2
-pub sort-copied : (n : Node) → isDrawing n ≡ false → (sortOf requirementSorts (n .op) ≡ 0 → ⊥) → sortOf emittedSorts (n .op) ≡ sortOf requirementSorts (n .op)
+sort-copied : (n : Node) → isDrawing n ≡ false → (sortOf requirementSorts (n .op) ≡ 0 → ⊥) → sortOf emittedSorts (n .op) ≡ sortOf requirementSorts (n .op)
 unfolding sameSort isDrawing
 sort-copied n e some =
     eqb-true _ _ (left (leb 27 (n .op) && leb (n .op) 29) (eqb (sortOf requirementSorts (n .op)) 0) _ e (ne-eqb _ 0 some) (same-sort (n .op)))
@@ -74,9 +74,9 @@ use-of what =
     ]
 
 -- an operand that the map gives
-pub record Given (x : ℕ → Node) (y : List ℕ) (map : List ℕ) (what v : ℕ) : Type 0 where
-  pub proposition : what ≡ 7 → HasProposition y (entryOf map v) (propositionAt x v)
-  pub formula : what ≡ 8 → Has y (entryOf map v) (undrawn (formulaAt x v))
+record Given (x : ℕ → Node) (y : List ℕ) (map : List ℕ) (what v : ℕ) : Type 0 where
+  proposition : what ≡ 7 → HasProposition y (entryOf map v) (propositionAt x v)
+  formula : what ≡ 8 → Has y (entryOf map v) (undrawn (formulaAt x v))
 
 module _ (x : ℕ → Node) (y map : List ℕ) (s m v : ℕ) where
   given-fits : (what : ℕ) → Good y → v < 65536 → Given x y map what v → mappedTo map what v < 65536
@@ -111,7 +111,7 @@ module _ (x : ℕ → Node) (y map : List ℕ) (s m v : ℕ) where
 
 -- the operands of a node that rule 7 takes
 module _ {x : ℕ → Node} {i : ℕ} {y map : List ℕ} (kept : operandsRight requirementSorts x i ≡ true) (mapped : Mapped x i y map) where
-  pub given-a : Given x y map (aUse (x i .op)) (x i .a)
+  given-a : Given x y map (aUse (x i .op)) (x i .a)
   given-a =
       let o = operands requirementSorts x i kept in
       record {
@@ -119,7 +119,7 @@ module _ {x : ℕ → Node} {i : ℕ} {y map : List ℕ} (kept : operandsRight r
         formula = λ e. mapped (x i .a) (o .a-formula e .less) .formula (o .a-formula e .sorted);
       }
 
-  pub given-b : Given x y map (bUse (x i .op)) (x i .b)
+  given-b : Given x y map (bUse (x i .op)) (x i .b)
   given-b =
       let o = operands requirementSorts x i kept in
       record {
@@ -129,7 +129,7 @@ module _ {x : ℕ → Node} {i : ℕ} {y map : List ℕ} (kept : operandsRight r
 
 -- rule 6, opened
 module _ (s m : ℕ) (n : Node) (right : fieldsRight requirementSorts s m n ≡ true) where
-  pub some-sort : sortOf requirementSorts (n .op) ≡ 0 → ⊥
+  some-sort : sortOf requirementSorts (n .op) ≡ 0 → ⊥
   unfolding fieldsRight
   some-sort e = go (eqb (sortOf requirementSorts (n .op)) 0) (eq-eqb _ 0 e) (and-left (not (eqb (sortOf requirementSorts (n .op)) 0)) _ right)
     where
@@ -137,7 +137,7 @@ module _ (s m : ℕ) (n : Node) (right : fieldsRight requirementSorts s m n ≡ 
       go true p q = true≢false (sym q)
       go false p q = false≢true p
 
-  pub q-right : fieldRight s m (qUse (n .op)) (n .q) ≡ true
+  q-right : fieldRight s m (qUse (n .op)) (n .q) ≡ true
   unfolding fieldsRight
   q-right = and-left (fieldRight s m (qUse (n .op)) (n .q)) _ (and-right (not (eqb (sortOf requirementSorts (n .op)) 0)) _ right)
 
@@ -145,10 +145,10 @@ module _ (s m : ℕ) (n : Node) (right : fieldsRight requirementSorts s m n ≡ 
   unfolding fieldsRight
   ab-right = and-right (fieldRight s m (qUse (n .op)) (n .q)) _ (and-right (not (eqb (sortOf requirementSorts (n .op)) 0)) _ right)
 
-  pub a-right : fieldRight s m (aUse (n .op)) (n .a) ≡ true
+  a-right : fieldRight s m (aUse (n .op)) (n .a) ≡ true
   a-right = and-left (fieldRight s m (aUse (n .op)) (n .a)) _ ab-right
 
-  pub b-right : fieldRight s m (bUse (n .op)) (n .b) ≡ true
+  b-right : fieldRight s m (bUse (n .op)) (n .b) ≡ true
   b-right = and-left (fieldRight s m (bUse (n .op)) (n .b)) _ (and-right (fieldRight s m (aUse (n .op)) (n .a)) _ ab-right)
 
 -- ---- the copy may come next
@@ -266,7 +266,7 @@ copied-stands {x} {i} {y} {z} {map} {r} kept some plain a b new =
     }
 
 -- ---- drawings
-pub drawing-cases : (P : ℕ → Type 0) → P 27 → P 28 → P 29 → (n : Node) → isDrawing n ≡ true → P (n .op)
+drawing-cases : (P : ℕ → Type 0) → P 27 → P 28 → P 29 → (n : Node) → isDrawing n ≡ true → P (n .op)
 unfolding isDrawing
 drawing-cases P p q r n e =
     let low = leb-true 27 (n .op) (and-left (leb 27 (n .op)) _ e) in
@@ -305,7 +305,7 @@ drawing-stands {x} {i} kept drawing e =
     }
 
 -- ---- the map
-pub mapped-kept : {y z : List ℕ} {k : ℕ} (x : ℕ → Node) (i : ℕ) (map : List ℕ) → Step y z k → Mapped x i y map → Mapped x i z map
+mapped-kept : {y z : List ℕ} {k : ℕ} (x : ℕ → Node) (i : ℕ) (map : List ℕ) → Step y z k → Mapped x i y map → Mapped x i z map
 mapped-kept x i map s h j l =
     record {
       proposition = λ e. proposition-kept s (h j l .proposition e);
@@ -324,7 +324,7 @@ mapped-next {y} {r} x i map fits h new j l =
     ]
 
 -- ---- costs
-pub cost-next : (x : ℕ → Node) (i : ℕ) → copyCosts x i + copyCost (x i) ≡ copyCosts x (i + 1)
+cost-next : (x : ℕ → Node) (i : ℕ) → copyCosts x i + copyCost (x i) ≡ copyCosts x (i + 1)
 unfolding copyCosts copyCost countBelow drawingAt
 cost-next x i = rw native.Mathlib.Numerals.add-one (go (isDrawing (x i)) (countBelow i (drawingAt x)))
   where
@@ -374,7 +374,7 @@ gap-is n e a b =
     omega arith
 
 -- ---- node i copied
-pub copied : {y z map : List ℕ} {r : ℕ} (x : ℕ → Node) (i : ℕ) → Ready y → count y + 12 ≤ mostNodes
+copied : {y z map : List ℕ} {r : ℕ} (x : ℕ → Node) (i : ℕ) → Ready y → count y + 12 ≤ mostNodes
     → fieldsRight requirementSorts (headerOf y .signals) (headerOf y .names) (x i) ≡ true → operandsRight requirementSorts x i ≡ true
     → Mapped x i y map → Copied map (x i) y z r → (Step y z (copyCost (x i))) × (Stands x i z r)
 unfolding copyCost

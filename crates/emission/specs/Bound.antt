@@ -24,6 +24,6 @@ nodeBound s =
     headerOf s .nodes + 11 * drawings s + 3 + 2 * headerOf s .names
     + headerOf s .clauses * (16 + 5 * headerOf s .names)
 
--- as many as that is at most: 64 nodes, all of them drawings, 3 names and 8 clauses
+-- the largest such bound: 64 nodes, all of them drawings, 3 names and 8 clauses
 abbrev pub mostNodes : ℕ
 mostNodes = 1025
