@@ -1,27 +1,28 @@
--- Placed names: what a name takes, and sets of names as masks.
-use Prim.Native.Nat.{ℕ, zero, suc, _*_, _^_, _≤_, _<_}
-use mathlib.Core.Bool.{Bool, true, false, not, cond, _&&_, _||_}
+-- Placed names: how a plan over them is written, what it tells, and sets of names as masks.
+use Prim.Native.Nat.{ℕ, zero, suc, _+_, _*_, _%_, _^_, _≤_, _<_}
+use mathlib.Core.Bool.{Bool, true, false, not, cond, _&&_, _||_, true≢false}
 use mathlib.Core.List.{List}
 use mathlib.Core.Logic.{inl, inr}
 use mathlib.Core.Path.{_≡_, refl, sym, _∙_, ap, fun-ext}
+use native.Mathlib.Nat.{div-eq-of-lt, pow-le-pow-right}
 use native.Mathlib.Omega.{arith}
-use borrow.Author.Tests.{ltb-true, lt-ltb, leb-true}
-use lib.Dec.{ltb, leb}
+use borrow.Author.Tests.{ltb-true, ltb-false, lt-ltb}
+use lib.Dec.{eqb, ltb}
 use Rattle.semantics.specs.Proposition.{bit, name}
-use Rattle.semantics.specs.Formula.{Formula, conjunction, scount, equal, forSome}
+use Rattle.semantics.specs.Formula.{Formula, conjunction, scount, at, forSome, equal}
 use Rattle.semantics.specs.Placement.{Names, noNames, everyName, union, listed}
 use Rattle.semantics.specs.Translation.{onceName, placedName, placed, once}
 use Rattle.semantics.proofs.Tests.{test}
 use Rattle.stored.specs.Bytes.{everyBelow}
 use Rattle.stored.specs.Reach.{joint}
-use Rattle.stored.proofs.Rules.{every-at, asked}
+use Rattle.stored.specs.Sheet.{headerOf}
+use Rattle.stored.proofs.Rules.{every-at}
 use Rattle.stored.proofs.Reach.{bit-listed, joint-small}
-use Rattle.stored.proofs.Accepted.{mask-small}
-use Rattle.emission.specs.Emission.{Good, Has, Emits}
-use Rattle.clauses.specs.Clauses.{placedCost, placedCosts}
-use Rattle.emission.proofs.Steps.{stay, steps, emits-as}
+use Rattle.emission.specs.Emission.{Ready}
+use Rattle.emission.specs.Plan.{Wrote, there, marked, conjoined, columned}
+use Rattle.emission.proofs.Plans.{Tells, tells-within, once-told, and-told, some-told}
 
--- ---- masks below 8, computed once over all
+-- ---- sets of names as masks
 same-bool : Bool → Bool → Bool
 same-bool true b = b
 same-bool false b = not b
@@ -39,72 +40,11 @@ unions-hold : everyBelow 8 (λ a. everyBelow 8 (λ b. everyBelow 3 (unions a b))
 unfolding everyBelow unions same-bool bit joint
 unions-hold = refl
 
--- a bit of a mask below 2 ^ m is a name below m, and placing takes two nodes a name, or one where all are placed before
-naming : ℕ → ℕ → ℕ → Bool
-naming m a u = not (ltb a (2 ^ m)) || (not (bit a u) || ltb u m)
-
-naming-holds : everyBelow 4 (λ m. everyBelow 8 (λ a. everyBelow 3 (naming m a))) ≡ true
-unfolding everyBelow naming bit
-naming-holds = refl
-
-cheap : ℕ → ℕ → ℕ → Bool
-cheap m b a = not (ltb a (2 ^ m)) || (leb (placedCosts b a) (2 * m) && leb (placedCosts 7 a) m)
-
-cheap-holds : everyBelow 4 (λ m. everyBelow 8 (λ b. everyBelow 8 (cheap m b))) ≡ true
-unfolding everyBelow cheap placedCosts placedCost bit
-cheap-holds = refl
-
-joining : ℕ → ℕ → ℕ → Bool
-joining m a b = not (ltb a (2 ^ m)) || (not (ltb b (2 ^ m)) || ltb (joint a b) (2 ^ m))
-
-joining-holds : everyBelow 4 (λ m. everyBelow 8 (λ a. everyBelow 8 (joining m a))) ≡ true
-unfolding everyBelow joining joint
-joining-holds = refl
-
-module _ (m : ℕ) (three : m ≤ 3) where
-  pub small-mask : (a : ℕ) → a < 2 ^ m → a < 8
-  small-mask a h = mask-small m a three h
-
-  pub named-below : (a u : ℕ) → a < 2 ^ m → u < 3 → bit a u ≡ true → u < m
-  unfolding naming
-  named-below a u h l e =
-      ltb-true u m
-      (asked (bit a u) (ltb u m)
-      (asked (ltb a (2 ^ m)) _
-      (every-at 3 (naming m a) (every-at 8 _ (every-at 4 _ naming-holds m (omega arith)) a (small-mask a h)) u l)
-      (lt-ltb a (2 ^ m) h))
-      e)
-
-  cheap-at : (b a : ℕ) → b < 8 → a < 2 ^ m → (leb (placedCosts b a) (2 * m) && leb (placedCosts 7 a) m) ≡ true
-  unfolding cheap
-  cheap-at b a k h =
-      asked (ltb a (2 ^ m)) _
-      (every-at 8 (cheap m b) (every-at 8 _ (every-at 4 _ cheap-holds m (omega arith)) b k) a (small-mask a h))
-      (lt-ltb a (2 ^ m) h)
-
-  pub placed-cheap : (b a : ℕ) → b < 8 → a < 2 ^ m → placedCosts b a ≤ 2 * m
-  placed-cheap b a k h =
-      leb-true _ _ (Rattle.semantics.proofs.Tests.and-left (leb (placedCosts b a) (2 * m)) (leb (placedCosts 7 a) m) (cheap-at b a k h))
-
-  pub once-cheap : (a : ℕ) → a < 2 ^ m → placedCosts 7 a ≤ m
-  once-cheap a h =
-      leb-true _ _ (Rattle.semantics.proofs.Tests.and-right (leb (placedCosts 7 a) (2 * m)) (leb (placedCosts 7 a) m) (cheap-at 7 a (omega arith) h))
-
-  pub joint-below : (a b : ℕ) → a < 2 ^ m → b < 2 ^ m → joint a b < 2 ^ m
-  unfolding joining
-  joint-below a b h k =
-      ltb-true _ _
-      (asked (ltb b (2 ^ m)) _
-      (asked (ltb a (2 ^ m)) _
-      (every-at 8 (joining m a) (every-at 8 _ (every-at 4 _ joining-holds m (omega arith)) a (small-mask a h)) b (small-mask b k))
-      (lt-ltb a (2 ^ m) h))
-      (lt-ltb b (2 ^ m) k))
-
 bit-past : (a u : ℕ) → a < 8 → ltb u 3 ≡ false → bit a u ≡ false
 unfolding listed
 bit-past a u h e = ap (λ (k : Names). k u) (sym (bit-listed a h)) ∙ rw e
 
-pub bit-union : (a b : ℕ) → a < 8 → b < 8 → bit (joint a b) ≡ union (bit a) (bit b)
+bit-union : (a b : ℕ) → a < 8 → b < 8 → bit (joint a b) ≡ union (bit a) (bit b)
 unfolding union unions
 bit-union a b h k =
     fun-ext
@@ -128,45 +68,96 @@ bit-none =
     go (suc (suc zero)) h = refl
     go (suc (suc (suc u))) h = absurd (omega arith)
 
--- every name counts as placed before where the mask has the three
-pub placed-every : (names : Names) (f : Formula) → placed (bit 7) names f ≡ once names f
-unfolding once placed placedName everyName bit
-placed-every names f = refl
-
--- ---- one name
-module _ {x : List ℕ} (good : Good x) (u before names : ℕ) where
-  pub name-left : {f : ℕ} {g : Formula} → Has x f g → bit names u ≡ false → Emits x x f (placedCost u before names) (placedName u (bit before) (bit names) g)
-  unfolding placedCost placedName onceName
-  name-left h e = rw e (record { step = stay good; has = h })
-
-  pub name-marked : {y : List ℕ} {r : ℕ} {g : Formula} → Emits x y r 1 (conjunction (scount equal (name u) 1) g) → bit names u ≡ true → bit before u ≡ true → Emits x y r (placedCost u before names) (placedName u (bit before) (bit names) g)
-  unfolding placedCost placedName onceName
-  name-marked e p q = rw (p, q) e
-
-  pub name-placed : {y z : List ℕ} {r t : ℕ} {g : Formula} → Emits x y r 1 (conjunction (scount equal (name u) 1) g) → Emits y z t 1 (forSome u (conjunction (scount equal (name u) 1) g)) → bit names u ≡ true → bit before u ≡ false → Emits x z t (placedCost u before names) (placedName u (bit before) (bit names) g)
-  unfolding placedCost placedName onceName
-  name-placed e e′ p q = rw (p, q) (record { step = steps (e .step) (e′ .step); has = e′ .has })
-
-pub cost-two : (u before names : ℕ) → placedCost u before names ≤ 2
-unfolding placedCost
-cost-two u before names = go (bit names u) (bit before u)
-  where
-    go : (p q : Bool) → cond p (cond q 1 2) 0 ≤ 2
-    go true true = omega arith
-    go true false = omega arith
-    go false q = omega arith
-
--- the names placed, or placed before, as a set
-pub named-as : {x y : List ℕ} {r k : ℕ} (before N K : Names) (f : Formula) → N ≡ K → Emits x y r k (placed before N f) → Emits x y r k (placed before K f)
-named-as before N K f e h = emits-as (ap (λ (n : Names). placed before n f) e) h
-
-pub before-as : {x y : List ℕ} {r k : ℕ} (names N K : Names) (f : Formula) → N ≡ K → Emits x y r k (placed N names f) → Emits x y r k (placed K names f)
-before-as names N K f e h = emits-as (ap (λ (b : Names). placed b names f) e) h
-
 -- two masks joined
-module _ {m : ℕ} (three : m ≤ 3) {a b c : ℕ} (h : a < 2 ^ m) (k : b < 2 ^ m) (e : c ≡ joint a b) where
-  pub joined-below : c < 2 ^ m
-  joined-below = rw e (joint-below m three a b h k)
+pub joined-union : {a b c : ℕ} → a < 8 → b < 8 → c ≡ joint a b → bit c ≡ union (bit a) (bit b)
+joined-union {a} {b} h k e = ap bit e ∙ bit-union a b h k
 
-  pub joined-union : bit c ≡ union (bit a) (bit b)
-  joined-union = ap bit e ∙ bit-union a b (small-mask m three a h) (small-mask m three b k)
+-- every name of the set is one of the m
+abbrev pub Inside : ℕ → Names → Type 0
+Inside m names = (u : ℕ) → names u ≡ true → u < m
+
+pub mask-inside : (m a : ℕ) → a < 2 ^ m → Inside m (bit a)
+unfolding bit
+mask-inside m a h u e =
+    elim (test (ltb u m)) [
+      | inl l ↦ ltb-true u m l
+      | inr l ↦ let big : 2 ^ m ≤ 2 ^ u = pow-le-pow-right {n = 2} (omega arith) (ltb-false u m l) in
+          let less : a < 2 ^ u = omega arith in
+          absurd (true≢false (sym e ∙ ap (λ (x : ℕ). eqb (x % 2) 1) (div-eq-of-lt less)))
+    ]
+
+pub union-inside : {m : ℕ} {a b : Names} → Inside m a → Inside m b → Inside m (union a b)
+unfolding union
+union-inside {a = a} {b = b} h k u e = go (a u) (b u) (h u) (k u) e
+  where
+    go : {m : ℕ} (p q : Bool) → (p ≡ true → u < m) → (q ≡ true → u < m) → (p || q) ≡ true → u < m
+    go true q h k e = h refl
+    go false q h k e = k e
+
+-- ---- one name, by whether it is of the set, and whether it was placed before
+named : ℕ → Bool → Bool → Formula → Formula
+named u p q f =
+    cond (p && not q) (forSome u (cond p (conjunction (scount equal (name u) 1) f) f)) (cond p (conjunction (scount equal (name u) 1) f) f)
+
+-- what is written for g after y is written for g′ after x
+abbrev Over : List ℕ → List ℕ → Formula → Formula → Type 0
+Over x y g g′ = (z : List ℕ) (r : ℕ) → Wrote y z r g → Wrote x z r g′
+
+node-over : {x y : List ℕ} {a : ℕ} {f : Formula} → Wrote x y a f → Over x y (at a) f
+node-over w z r there = w
+
+name-over : {x y : List ℕ} {g g′ : Formula} (u : ℕ) (p q : Bool) → Over x y g g′ → Over x y (named u p q g) (named u p q g′)
+unfolding named
+name-over u false q o z r w = o z r w
+name-over u true true o z r (conjoined marked w put) = conjoined marked (o _ _ w) put
+name-over u true false o z r (columned (conjoined marked w put) put′) = columned (conjoined marked (o _ _ w) put) put′
+
+pub name-over-node : {x y z : List ℕ} {a r : ℕ} {f : Formula} (u : ℕ) (before names : Names) → Wrote x y a f
+    → Wrote y z r (placedName u before names (at a)) → Wrote x z r (placedName u before names f)
+unfolding placedName onceName named
+name-over-node u before names w v = name-over u (names u) (before u) (node-over w) _ _ v
+
+pub placed-over : {x y z : List ℕ} {a r : ℕ} {f : Formula} (before names : Names) → Wrote x y a f
+    → Wrote y z r (placed before names (at a)) → Wrote x z r (placed before names f)
+unfolding placed placedName onceName named
+placed-over before names w v =
+    name-over 0 (names 0) (before 0) (name-over 1 (names 1) (before 1) (name-over 2 (names 2) (before 2) (node-over w))) _ _ v
+
+-- ---- what they tell: two nodes a name, or one where it was placed before
+two-most : (b q : Bool) → cond b (cond q 1 2) 0 ≤ cond b 2 0
+two-most true true = omega arith
+two-most true false = omega arith
+two-most false q = omega arith
+
+names-most : (m c : ℕ) → m ≤ 3 → cond (ltb 2 m) c 0 + cond (ltb 1 m) c 0 + cond (ltb 0 m) c 0 ≤ c * m
+names-most zero c h = omega arith
+names-most (suc zero) c h = omega arith
+names-most (suc (suc zero)) c h = omega arith
+names-most (suc (suc (suc zero))) c h = omega arith
+names-most (suc (suc (suc (suc m)))) c h = absurd (omega arith)
+
+module _ {y : List ℕ} (ready : Ready y) where
+  name-told : {f g : Formula} {k : ℕ} (u : ℕ) (p q : Bool) → (p ≡ true → u < headerOf y .names) → Tells y f g k
+      → Tells y (named u p q f) (named u p q g) (k + cond (ltb u (headerOf y .names)) (cond q 1 2) 0)
+  unfolding named
+  name-told {k = k} u false q h t = tells-within _ (omega arith) t
+  name-told {k = k} u true true h t =
+      rw (lt-ltb u (headerOf y .names) (h refl)) (tells-within (k + 1) (omega arith) (and-told (once-told ready (h refl)) t))
+  name-told {k = k} u true false h t =
+      rw (lt-ltb u (headerOf y .names) (h refl)) (tells-within (k + 2) (omega arith) (some-told u (h refl) (and-told (once-told ready (h refl)) t)))
+
+  pub placed-told : {f g : Formula} {k : ℕ} (before names : Names) → Inside (headerOf y .names) names → Tells y f g k
+      → Tells y (placed before names f) (placed before names g) (k + 2 * headerOf y .names)
+  unfolding placed placedName onceName named
+  placed-told before names inside t =
+      let m = headerOf y .names in
+      let most = names-most m 2 (ready .good .few-names) in
+      tells-within _ (omega (arith, two-most (ltb 0 m) (before 0), two-most (ltb 1 m) (before 1), two-most (ltb 2 m) (before 2)))
+      (name-told 0 (names 0) (before 0) (inside 0) (name-told 1 (names 1) (before 1) (inside 1) (name-told 2 (names 2) (before 2) (inside 2) t)))
+
+  pub once-placed-told : {f g : Formula} {k : ℕ} (names : Names) → Inside (headerOf y .names) names → Tells y f g k
+      → Tells y (once names f) (once names g) (k + headerOf y .names)
+  unfolding once placed placedName onceName everyName named
+  once-placed-told names inside t =
+      tells-within _ (omega (arith, names-most (headerOf y .names) 1 (ready .good .few-names)))
+      (name-told 0 (names 0) true (inside 0) (name-told 1 (names 1) true (inside 1) (name-told 2 (names 2) true (inside 2) t)))

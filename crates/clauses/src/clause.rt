@@ -1,19 +1,18 @@
-// "The clause is broken", by its type: parts D1, D2, D3 as formula nodes f1, f2, f3, with the masks m1, m2, m3 of their names.
+// "The clause is broken", by its type: parts D1, D2, D3 as formula nodes f1, f2, f3, with the masks m1, m2, m3 of their names. Each
+// function writes its formula in order, operands first.
 use crate::placing;
 use emission::node;
 use emission::shared;
-ghost use Prim.Native.Nat.{_+_, _*_, _^_, _≤_, _<_};
+ghost use Prim.Native.Nat.{_<_};
 ghost use Rattle.semantics.specs.Proposition.{bit};
+ghost use Rattle.semantics.specs.Formula.{at};
 ghost use Rattle.semantics.specs.Clause.{pref, init, anti, implies, follows, triggers};
-ghost use Rattle.semantics.specs.Translation.{unansweredOf, brokenOf};
+ghost use Rattle.semantics.specs.Translation.{shortestOf, unansweredOf, brokenOf};
 ghost use Rattle.stored.specs.Clause.{kindOf};
-ghost use Rattle.stored.specs.Sheet.{headerOf};
-ghost use Rattle.emission.specs.Emission.{mostNodes, count, formulaIn, Emits, Ready};
-ghost use Rattle.clauses.specs.Clauses.{PartIn, PartsIn, clauseCost};
+ghost use Rattle.emission.specs.Plan.{Wrote};
 
 fn put_pref(out: &mut [u8], f1: usize, m1: usize) -> usize
-    requires { ⌜ (Ready (now out)) × (count (now out) + 40 ≤ mostNodes) × (PartIn (now out) f1 m1) ⌝ }
-    ensures { λ r. ⌜ Emits (now (out .entry)) (now (out .exit)) r (clauseCost (headerOf (now (out .entry)) .names)) (brokenOf pref (formulaIn (now (out .entry)) f1) (bit m1) (formulaIn (now (out .entry)) f1) (bit m1) (formulaIn (now (out .entry)) f1) (bit m1)) ⌝ }
+    ensures { λ r. ⌜ Wrote (now (out .entry)) (now (out .exit)) r (brokenOf pref (at f1) (bit m1) (at f1) (bit m1) (at f1) (bit m1)) ⌝ }
 {
     let held = placing::put_fresh(out, m1, f1);
     let missed = node::put_not(out, held);
@@ -21,8 +20,7 @@ fn put_pref(out: &mut [u8], f1: usize, m1: usize) -> usize
 }
 
 fn put_init(out: &mut [u8], f1: usize, m1: usize, f2: usize, m2: usize) -> usize
-    requires { ⌜ (Ready (now out)) × (count (now out) + 40 ≤ mostNodes) × (PartIn (now out) f1 m1) × (PartIn (now out) f2 m2) ⌝ }
-    ensures { λ r. ⌜ Emits (now (out .entry)) (now (out .exit)) r (clauseCost (headerOf (now (out .entry)) .names)) (brokenOf init (formulaIn (now (out .entry)) f1) (bit m1) (formulaIn (now (out .entry)) f2) (bit m2) (formulaIn (now (out .entry)) f1) (bit m1)) ⌝ }
+    ensures { λ r. ⌜ Wrote (now (out .entry)) (now (out .exit)) r (brokenOf init (at f1) (bit m1) (at f2) (bit m2) (at f1) (bit m1)) ⌝ }
 {
     let given = placing::put_placed(out, m2, m1, f1);
     let somewhere = node::put_chop(out, given, shared::ANYWHERE);
@@ -33,8 +31,7 @@ fn put_init(out: &mut [u8], f1: usize, m1: usize, f2: usize, m2: usize) -> usize
 }
 
 fn put_anti(out: &mut [u8], f1: usize, m1: usize) -> usize
-    requires { ⌜ (Ready (now out)) × (count (now out) + 40 ≤ mostNodes) × (PartIn (now out) f1 m1) ⌝ }
-    ensures { λ r. ⌜ Emits (now (out .entry)) (now (out .exit)) r (clauseCost (headerOf (now (out .entry)) .names)) (brokenOf anti (formulaIn (now (out .entry)) f1) (bit m1) (formulaIn (now (out .entry)) f1) (bit m1) (formulaIn (now (out .entry)) f1) (bit m1)) ⌝ }
+    ensures { λ r. ⌜ Wrote (now (out .entry)) (now (out .exit)) r (brokenOf anti (at f1) (bit m1) (at f1) (bit m1) (at f1) (bit m1)) ⌝ }
 {
     let given = placing::put_fresh(out, m1, f1);
     let started = node::put_chop(out, given, shared::ANYWHERE);
@@ -42,8 +39,7 @@ fn put_anti(out: &mut [u8], f1: usize, m1: usize) -> usize
 }
 
 fn put_implies(out: &mut [u8], f1: usize, m1: usize, f2: usize, m2: usize) -> usize
-    requires { ⌜ (Ready (now out)) × (count (now out) + 40 ≤ mostNodes) × (PartIn (now out) f1 m1) × (PartIn (now out) f2 m2) ⌝ }
-    ensures { λ r. ⌜ Emits (now (out .entry)) (now (out .exit)) r (clauseCost (headerOf (now (out .entry)) .names)) (brokenOf implies (formulaIn (now (out .entry)) f1) (bit m1) (formulaIn (now (out .entry)) f2) (bit m2) (formulaIn (now (out .entry)) f1) (bit m1)) ⌝ }
+    ensures { λ r. ⌜ Wrote (now (out .entry)) (now (out .exit)) r (brokenOf implies (at f1) (bit m1) (at f2) (bit m2) (at f1) (bit m1)) ⌝ }
 {
     let given = placing::put_placed(out, m1, m2, f2);
     let missed = node::put_not(out, given);
@@ -53,15 +49,22 @@ fn put_implies(out: &mut [u8], f1: usize, m1: usize, f2: usize, m2: usize) -> us
     node::put_chop(out, shared::ANYWHERE, started)
 }
 
+// f, and on no shorter interval with the same beginning.
+fn put_shortest(out: &mut [u8], f: usize) -> usize
+    ensures { λ r. ⌜ Wrote (now (out .entry)) (now (out .exit)) r (shortestOf (at f)) ⌝ }
+{
+    let longer = node::put_chop(out, f, shared::EXTENDED);
+    let not_longer = node::put_not(out, longer);
+    node::put_and(out, f, not_longer)
+}
+
 // D3 is Ξ, and D2 on no interval with the same beginning up to there.
 fn put_unanswered(out: &mut [u8], m1: usize, f2: usize, m2: usize, f3: usize, m3: usize) -> usize
-    requires { ⌜ (Ready (now out)) × (count (now out) + 40 ≤ mostNodes) × (m1 < 2 ^ headerOf (now out) .names) × (PartIn (now out) f2 m2) × (PartIn (now out) f3 m3) ⌝ }
-    ensures { λ r. ⌜ Emits (now (out .entry)) (now (out .exit)) r (6 + 3 * headerOf (now (out .entry)) .names) (unansweredOf (bit m1) (formulaIn (now (out .entry)) f2) (bit m2) (formulaIn (now (out .entry)) f3) (bit m3)) ⌝ }
+    requires { ⌜ (m1 < 8) × (m3 < 8) ⌝ }
+    ensures { λ r. ⌜ Wrote (now (out .entry)) (now (out .exit)) r (unansweredOf (bit m1) (at f2) (bit m2) (at f3) (bit m3)) ⌝ }
 {
     let before = placing::both(m1, m3);
-    let longer = node::put_chop(out, f3, shared::EXTENDED);
-    let not_shorter = node::put_not(out, longer);
-    let shortest = node::put_and(out, f3, not_shorter);
+    let shortest = put_shortest(out, f3);
     let ended = placing::put_once(out, m3, shortest);
     let given = placing::put_placed(out, before, m2, f2);
     let somewhere = node::put_chop(out, given, shared::ANYWHERE);
@@ -78,13 +81,13 @@ fn put_follows(
     f3: usize,
     m3: usize,
 ) -> usize
-    requires { ⌜ (Ready (now out)) × (count (now out) + 40 ≤ mostNodes) × (PartIn (now out) f1 m1) × (PartIn (now out) f2 m2) × (PartIn (now out) f3 m3) ⌝ }
-    ensures { λ r. ⌜ Emits (now (out .entry)) (now (out .exit)) r (clauseCost (headerOf (now (out .entry)) .names)) (brokenOf follows (formulaIn (now (out .entry)) f1) (bit m1) (formulaIn (now (out .entry)) f2) (bit m2) (formulaIn (now (out .entry)) f3) (bit m3)) ⌝ }
+    requires { ⌜ (m1 < 8) × (m3 < 8) ⌝ }
+    ensures { λ r. ⌜ Wrote (now (out .entry)) (now (out .exit)) r (brokenOf follows (at f1) (bit m1) (at f2) (bit m2) (at f3) (bit m3)) ⌝ }
 {
     let names = placing::both(m1, m3);
+    let first = placing::put_once(out, m1, f1);
     let unanswered = put_unanswered(out, m1, f2, m2, f3, m3);
     let rest = node::put_chop(out, unanswered, shared::ANYWHERE);
-    let first = placing::put_once(out, m1, f1);
     let joined = node::put_chop(out, first, rest);
     let placed = placing::put_fresh(out, names, joined);
     node::put_chop(out, shared::ANYWHERE, placed)
@@ -99,14 +102,14 @@ fn put_triggers(
     f3: usize,
     m3: usize,
 ) -> usize
-    requires { ⌜ (Ready (now out)) × (count (now out) + 40 ≤ mostNodes) × (PartIn (now out) f1 m1) × (PartIn (now out) f2 m2) × (PartIn (now out) f3 m3) ⌝ }
-    ensures { λ r. ⌜ Emits (now (out .entry)) (now (out .exit)) r (clauseCost (headerOf (now (out .entry)) .names)) (brokenOf triggers (formulaIn (now (out .entry)) f1) (bit m1) (formulaIn (now (out .entry)) f2) (bit m2) (formulaIn (now (out .entry)) f3) (bit m3)) ⌝ }
+    requires { ⌜ (m1 < 8) × (m3 < 8) ⌝ }
+    ensures { λ r. ⌜ Wrote (now (out .entry)) (now (out .exit)) r (brokenOf triggers (at f1) (bit m1) (at f2) (bit m2) (at f3) (bit m3)) ⌝ }
 {
     let names = placing::both(m1, m3);
-    let unanswered = put_unanswered(out, m1, f2, m2, f3, m3);
-    let rest = node::put_chop(out, unanswered, shared::ANYWHERE);
     let once = placing::put_once(out, m1, f1);
     let first = node::put_chop(out, once, shared::ANYWHERE);
+    let unanswered = put_unanswered(out, m1, f2, m2, f3, m3);
+    let rest = node::put_chop(out, unanswered, shared::ANYWHERE);
     let joined = node::put_and(out, first, rest);
     let placed = placing::put_fresh(out, names, joined);
     node::put_chop(out, shared::ANYWHERE, placed)
@@ -123,12 +126,9 @@ pub fn put_kind(
     f3: usize,
     m3: usize,
 ) -> usize
-    requires { ⌜ (Ready (now out)) × (count (now out) + 40 ≤ mostNodes) × (1 ≤ kind) × (kind ≤ 6) × (PartsIn (now out) kind f1 m1 f2 m2 f3 m3) ⌝ }
-    ensures { λ r. ⌜ Emits (now (out .entry)) (now (out .exit)) r (clauseCost (headerOf (now (out .entry)) .names)) (brokenOf (kindOf kind) (formulaIn (now (out .entry)) f1) (bit m1) (formulaIn (now (out .entry)) f2) (bit m2) (formulaIn (now (out .entry)) f3) (bit m3)) ⌝ }
+    requires { ⌜ (m1 < 8) × (m3 < 8) ⌝ }
+    ensures { λ r. ⌜ Wrote (now (out .entry)) (now (out .exit)) r (brokenOf (kindOf kind) (at f1) (bit m1) (at f2) (bit m2) (at f3) (bit m3)) ⌝ }
 {
-    if kind == 1 {
-        return put_pref(out, f1, m1);
-    }
     if kind == 2 {
         return put_init(out, f1, m1, f2, m2);
     }
@@ -141,5 +141,8 @@ pub fn put_kind(
     if kind == 5 {
         return put_follows(out, f1, m1, f2, m2, f3, m3);
     }
-    put_triggers(out, f1, m1, f2, m2, f3, m3)
+    if kind == 6 {
+        return put_triggers(out, f1, m1, f2, m2, f3, m3);
+    }
+    put_pref(out, f1, m1)
 }

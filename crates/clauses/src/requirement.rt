@@ -3,22 +3,21 @@ use crate::clause;
 use emission::copy;
 use emission::node;
 use emission::shared;
-use stored::Node;
 use stored::StoredClause;
 use stored::clauses;
 use stored::masks;
 ghost use mathlib.Core.Path.{_≡_};
-ghost use Prim.Native.Nat.{_+_, _≤_};
+ghost use Prim.Native.Nat.{_+_, _≤_, _<_};
 ghost use Rattle.semantics.specs.Translation.{translation};
 ghost use Rattle.stored.specs.Sheet.{headerOf};
-ghost use Rattle.emission.specs.Emission.{mostNodes, count, Emits, Ready};
-ghost use Rattle.clauses.specs.Clauses.{clauseCost};
+ghost use Rattle.emission.specs.Emission.{count, Emits, Ready};
+ghost use Rattle.emission.specs.Plan.{Wrote};
 ghost use Rattle.emission.specs.Copying.{NodesIn};
-ghost use Rattle.clauses.specs.Clauses.{ClausesIn, ClauseIn, brokenIn, clausesAt, requirementCost};
+ghost use Rattle.clauses.specs.Clauses.{ClausesIn, brokenIn, clausesAt, requirementCost};
 
 fn put_clause(out: &mut [u8], map: &[usize], d: StoredClause) -> usize
-    requires { ⌜ (Ready (now out)) × (count (now out) + 40 ≤ mostNodes) × (1 ≤ d .kind) × (d .kind ≤ 6) × (ClauseIn (now out) (now map) d) ⌝ }
-    ensures { λ r. ⌜ Emits (now (out .entry)) (now (out .exit)) r (clauseCost (headerOf (now (out .entry)) .names)) (brokenIn (now (out .entry)) (now (map .entry)) d) ⌝ }
+    requires { ⌜ (d .mask1 < 8) × (d .mask3 < 8) ⌝ }
+    ensures { λ r. ⌜ Wrote (now (out .entry)) (now (out .exit)) r (brokenIn (now (map .entry)) d) ⌝ }
 {
     let f1 = masks::entry_of(map, d.root1);
     let f2 = masks::entry_of(map, d.root2);
@@ -46,13 +45,5 @@ pub fn put_requirement(out: &mut [u8], nodes: &[u8], n: usize, clauses: &[u8], c
     let assumed = sides[0];
     let committed = sides[1];
     let kept = node::put_not(out, committed);
-    node::emit(
-        out,
-        Node {
-            op: 22,
-            q: 0,
-            a: assumed,
-            b: kept,
-        },
-    )
+    node::put_or(out, assumed, kept)
 }

@@ -1,5 +1,5 @@
 -- A node copied by the map stands for the node of the sheet.
-use Prim.Native.Nat.{ℕ, suc, _+_, _*_, _/_, _%_, _≤_, _<_}
+use Prim.Native.Nat.{ℕ, suc, _+_, _*_, _/_, _≤_, _<_}
 use mathlib.Core.Bool.{Bool, true, false, not, cond, _&&_, _||_, true≢false, false≢true}
 use mathlib.Core.List.{List}
 use mathlib.Core.Logic.{inl, inr}
@@ -18,17 +18,19 @@ use Rattle.semantics.proofs.Cycles.{count-most}
 use Rattle.stored.specs.declared.Node.{Node}
 use Rattle.stored.specs.Bytes.{word, everyBelow}
 use Rattle.stored.specs.Node.{requirementSorts, emittedSorts, sortOf, qUse, aUse, bUse, nodeAt, fieldRight, fieldsRight, operandRight, operandsRight}
-use Rattle.stored.specs.Tree.{comparisonOf, PropositionOp, FormulaOp, propositionOp, formulaOp, propositionOf, propositionAt, formulaOf, formulaAt}
+use Rattle.stored.specs.Tree.{comparisonOf, symbolOf, PropositionOp, FormulaOp, propositionOp, formulaOp, propositionOf, propositionAt, formulaOf, formulaAt}
 use Rattle.stored.specs.Reach.{entryOf}
 use Rattle.stored.specs.Sheet.{headerOf}
 use Rattle.stored.specs.Written.{nodeIn, NodeFits}
 use Rattle.stored.proofs.Rules.{every-number}
 use Rattle.stored.proofs.Tree.{proposition-cases, formula-cases, operands, proposition-law, formula-law}
-use Rattle.emission.specs.Bound.{isDrawing, drawingAt}
-use Rattle.emission.specs.Emission.{mostNodes, count, propositionIn, formulaIn, Good, Step, HasProposition, Has, Emits, Addable, Added}
-use Rattle.emission.specs.Copying.{Stands, Mapped, mappedTo, copiedNode, noPropositions, noFormulas, drawingOf, copyCost, copyCosts}
-use Rattle.emission.proofs.Steps.{has-kept, proposition-kept, made-proposition, made-formula}
-use Rattle.emission.proofs.Nodes.{of-formula, of-proposition}
+use Rattle.emission.specs.Bound.{mostNodes, isDrawing, drawingAt}
+use Rattle.emission.specs.Emission.{count, propositionIn, formulaIn, Good, Step, HasProposition, Has, Emits, Ready}
+use Rattle.emission.specs.Copying.{Stands, Mapped, mappedTo, copiedNode, noPropositions, noFormulas, drawingOf, Copied, byOthers, itself, copyCost, copyCosts, NodesIn}
+use Rattle.emission.proofs.Steps.{stay, steps, wider, has-kept, proposition-kept, ready-kept, Addable, Added, put-added}
+use Rattle.emission.proofs.Nodes.{of-formula, of-proposition, new-proposition, new-formula}
+use Rattle.emission.proofs.Plans.{Tells}
+use Rattle.emission.proofs.Drawings.{symbol-told, mark-told, gap-told}
 
 -- ---- sorts
 sameSort : ℕ → ℕ → ℕ → Bool
@@ -45,7 +47,7 @@ same-sort =
     past false = refl
 
 -- an op of kind 1 that is no drawing has the same sort in kind 2
-pub sort-copied : (n : Node) → isDrawing n ≡ false → (sortOf requirementSorts (n .op) ≡ 0 → ⊥) → sortOf emittedSorts (n .op) ≡ sortOf requirementSorts (n .op)
+sort-copied : (n : Node) → isDrawing n ≡ false → (sortOf requirementSorts (n .op) ≡ 0 → ⊥) → sortOf emittedSorts (n .op) ≡ sortOf requirementSorts (n .op)
 unfolding sameSort isDrawing
 sort-copied n e some =
     eqb-true _ _ (left (leb 27 (n .op) && leb (n .op) 29) (eqb (sortOf requirementSorts (n .op)) 0) _ e (ne-eqb _ 0 some) (same-sort (n .op)))
@@ -72,9 +74,9 @@ use-of what =
     ]
 
 -- an operand that the map gives
-pub record Given (x : ℕ → Node) (y : List ℕ) (map : List ℕ) (what v : ℕ) : Type 0 where
-  pub proposition : what ≡ 7 → HasProposition y (entryOf map v) (propositionAt x v)
-  pub formula : what ≡ 8 → Has y (entryOf map v) (undrawn (formulaAt x v))
+record Given (x : ℕ → Node) (y : List ℕ) (map : List ℕ) (what v : ℕ) : Type 0 where
+  proposition : what ≡ 7 → HasProposition y (entryOf map v) (propositionAt x v)
+  formula : what ≡ 8 → Has y (entryOf map v) (undrawn (formulaAt x v))
 
 module _ (x : ℕ → Node) (y map : List ℕ) (s m v : ℕ) where
   given-fits : (what : ℕ) → Good y → v < 65536 → Given x y map what v → mappedTo map what v < 65536
@@ -109,7 +111,7 @@ module _ (x : ℕ → Node) (y map : List ℕ) (s m v : ℕ) where
 
 -- the operands of a node that rule 7 takes
 module _ {x : ℕ → Node} {i : ℕ} {y map : List ℕ} (kept : operandsRight requirementSorts x i ≡ true) (mapped : Mapped x i y map) where
-  pub given-a : Given x y map (aUse (x i .op)) (x i .a)
+  given-a : Given x y map (aUse (x i .op)) (x i .a)
   given-a =
       let o = operands requirementSorts x i kept in
       record {
@@ -117,7 +119,7 @@ module _ {x : ℕ → Node} {i : ℕ} {y map : List ℕ} (kept : operandsRight r
         formula = λ e. mapped (x i .a) (o .a-formula e .less) .formula (o .a-formula e .sorted);
       }
 
-  pub given-b : Given x y map (bUse (x i .op)) (x i .b)
+  given-b : Given x y map (bUse (x i .op)) (x i .b)
   given-b =
       let o = operands requirementSorts x i kept in
       record {
@@ -127,7 +129,7 @@ module _ {x : ℕ → Node} {i : ℕ} {y map : List ℕ} (kept : operandsRight r
 
 -- rule 6, opened
 module _ (s m : ℕ) (n : Node) (right : fieldsRight requirementSorts s m n ≡ true) where
-  pub some-sort : sortOf requirementSorts (n .op) ≡ 0 → ⊥
+  some-sort : sortOf requirementSorts (n .op) ≡ 0 → ⊥
   unfolding fieldsRight
   some-sort e = go (eqb (sortOf requirementSorts (n .op)) 0) (eq-eqb _ 0 e) (and-left (not (eqb (sortOf requirementSorts (n .op)) 0)) _ right)
     where
@@ -135,7 +137,7 @@ module _ (s m : ℕ) (n : Node) (right : fieldsRight requirementSorts s m n ≡ 
       go true p q = true≢false (sym q)
       go false p q = false≢true p
 
-  pub q-right : fieldRight s m (qUse (n .op)) (n .q) ≡ true
+  q-right : fieldRight s m (qUse (n .op)) (n .q) ≡ true
   unfolding fieldsRight
   q-right = and-left (fieldRight s m (qUse (n .op)) (n .q)) _ (and-right (not (eqb (sortOf requirementSorts (n .op)) 0)) _ right)
 
@@ -143,10 +145,10 @@ module _ (s m : ℕ) (n : Node) (right : fieldsRight requirementSorts s m n ≡ 
   unfolding fieldsRight
   ab-right = and-right (fieldRight s m (qUse (n .op)) (n .q)) _ (and-right (not (eqb (sortOf requirementSorts (n .op)) 0)) _ right)
 
-  pub a-right : fieldRight s m (aUse (n .op)) (n .a) ≡ true
+  a-right : fieldRight s m (aUse (n .op)) (n .a) ≡ true
   a-right = and-left (fieldRight s m (aUse (n .op)) (n .a)) _ ab-right
 
-  pub b-right : fieldRight s m (bUse (n .op)) (n .b) ≡ true
+  b-right : fieldRight s m (bUse (n .op)) (n .b) ≡ true
   b-right = and-left (fieldRight s m (bUse (n .op)) (n .b)) _ (and-right (fieldRight s m (aUse (n .op)) (n .a)) _ ab-right)
 
 -- ---- the copy may come next
@@ -154,7 +156,9 @@ no-gap : (n : Node) → isDrawing n ≡ false → n .op ≡ 29 → ⊥
 unfolding isDrawing
 no-gap n e f = true≢false (sym (ap (λ (k : ℕ). leb 27 k && leb k 29) f) ∙ e)
 
-pub may-copy : {x : ℕ → Node} {y map : List ℕ} (n : Node) → Good y → count y < mostNodes → NodeFits n → isDrawing n ≡ false → fieldsRight requirementSorts (headerOf y .signals) (headerOf y .names) n ≡ true → Given x y map (aUse (n .op)) (n .a) → Given x y map (bUse (n .op)) (n .b) → Addable y (copiedNode map n)
+may-copy : {x : ℕ → Node} {y map : List ℕ} (n : Node) → Good y → count y < mostNodes → NodeFits n → isDrawing n ≡ false
+    → fieldsRight requirementSorts (headerOf y .signals) (headerOf y .names) n ≡ true
+    → Given x y map (aUse (n .op)) (n .a) → Given x y map (bUse (n .op)) (n .b) → Addable y (copiedNode map n)
 unfolding copiedNode fieldsRight
 may-copy {x} {y} {map} n good room fits plain right a b =
     let s = headerOf y .signals in
@@ -163,7 +167,7 @@ may-copy {x} {y} {map} n good room fits plain right a b =
     record {
       good = good;
       room = room;
-      fits =
+      fields =
           record {
             op-fits = fits .op-fits;
             q-fits = fits .q-fits;
@@ -236,20 +240,22 @@ copied-formula map n p p′ f f′ k =
     k
     (λ other d e g h. ap (λ (o : FormulaOp). formulaOf o (copiedAs map k n) p′ f′) other ∙ sym (ap (λ (o : FormulaOp). undrawn (formulaOf o n p f)) other))
 
-pub copied-stands : {x : ℕ → Node} {i : ℕ} {y z map : List ℕ} {r : ℕ} → operandsRight requirementSorts x i ≡ true → (sortOf requirementSorts (x i .op) ≡ 0 → ⊥) → isDrawing (x i) ≡ false → Given x y map (aUse (x i .op)) (x i .a) → Given x y map (bUse (x i .op)) (x i .b) → Added y z r (copiedNode map (x i)) → Stands x i z r
+copied-stands : {x : ℕ → Node} {i : ℕ} {y z map : List ℕ} {r : ℕ} → operandsRight requirementSorts x i ≡ true
+    → (sortOf requirementSorts (x i .op) ≡ 0 → ⊥) → isDrawing (x i) ≡ false
+    → Given x y map (aUse (x i .op)) (x i .a) → Given x y map (bUse (x i .op)) (x i .b) → Added y z r (copiedNode map (x i)) → Stands x i z r
 unfolding copiedNode copiedAs CopiedProposition CopiedFormula isDrawing
 copied-stands {x} {i} {y} {z} {map} {r} kept some plain a b new =
     let sort = sort-copied (x i) plain some in
     record {
       proposition =
-          λ e. made-proposition new _ (sort ∙ e)
+          λ e. new-proposition new _ (sort ∙ e)
           (copied-proposition map (x i) (propositionAt x) (propositionIn z) (x i .op)
           (λ u. proposition-kept (new .step) (a .proposition u) .tree)
           (λ u. proposition-kept (new .step) (b .proposition u) .tree)
           ∙ sym (proposition-law requirementSorts x i kept))
           .has;
       formula =
-          λ e. made-formula new _ (sort ∙ e)
+          λ e. new-formula new _ (sort ∙ e)
           (copied-formula map (x i) (propositionAt x) (propositionIn z) (formulaAt x) (formulaIn z) (x i .op)
           plain
           (λ u. proposition-kept (new .step) (a .proposition u) .tree)
@@ -260,7 +266,7 @@ copied-stands {x} {i} {y} {z} {map} {r} kept some plain a b new =
     }
 
 -- ---- drawings
-pub drawing-cases : (P : ℕ → Type 0) → P 27 → P 28 → P 29 → (n : Node) → isDrawing n ≡ true → P (n .op)
+drawing-cases : (P : ℕ → Type 0) → P 27 → P 28 → P 29 → (n : Node) → isDrawing n ≡ true → P (n .op)
 unfolding isDrawing
 drawing-cases P p q r n e =
     let low = leb-true 27 (n .op) (and-left (leb 27 (n .op)) _ e) in
@@ -283,7 +289,8 @@ drawn-alike : (n : Node) (p : ℕ → Proposition) (f : ℕ → Formula) → isD
 unfolding DrawnAlike sortOf formulaOf formulaOp
 drawn-alike n p f e = drawing-cases (DrawnAlike n p f) (refl, refl) (refl, refl) (refl, refl) n e
 
-pub drawing-stands : {x : ℕ → Node} {i : ℕ} {y z : List ℕ} {r k : ℕ} → operandsRight requirementSorts x i ≡ true → isDrawing (x i) ≡ true → Emits y z r k (drawingOf (x i)) → Stands x i z r
+drawing-stands : {x : ℕ → Node} {i : ℕ} {y z : List ℕ} {r k : ℕ} → operandsRight requirementSorts x i ≡ true → isDrawing (x i) ≡ true
+    → Emits y z r k (drawingOf (x i)) → Stands x i z r
 unfolding drawingOf DrawnAlike
 drawing-stands {x} {i} kept drawing e =
     let alike = drawn-alike (x i) (propositionAt x) (formulaAt x) drawing in
@@ -298,14 +305,15 @@ drawing-stands {x} {i} kept drawing e =
     }
 
 -- ---- the map
-pub mapped-kept : {y z : List ℕ} {k : ℕ} (x : ℕ → Node) (i : ℕ) (map : List ℕ) → Step y z k → Mapped x i y map → Mapped x i z map
+mapped-kept : {y z : List ℕ} {k : ℕ} (x : ℕ → Node) (i : ℕ) (map : List ℕ) → Step y z k → Mapped x i y map → Mapped x i z map
 mapped-kept x i map s h j l =
     record {
       proposition = λ e. proposition-kept s (h j l .proposition e);
       formula = λ e. has-kept s (h j l .formula e);
     }
 
-pub mapped-next : {y : List ℕ} {r : ℕ} (x : ℕ → Node) (i : ℕ) (map : List ℕ) → i < length map → Mapped x i y map → Stands x i y r → Mapped x (i + 1) y (set map i r)
+mapped-next : {y : List ℕ} {r : ℕ} (x : ℕ → Node) (i : ℕ) (map : List ℕ) → i < length map → Mapped x i y map
+    → Stands x i y r → Mapped x (i + 1) y (set map i r)
 unfolding entryOf
 mapped-next {y} {r} x i map fits h new j l =
     elim (test (eqb j i)) [
@@ -316,7 +324,7 @@ mapped-next {y} {r} x i map fits h new j l =
     ]
 
 -- ---- costs
-pub cost-next : (x : ℕ → Node) (i : ℕ) → copyCosts x i + copyCost (x i) ≡ copyCosts x (i + 1)
+cost-next : (x : ℕ → Node) (i : ℕ) → copyCosts x i + copyCost (x i) ≡ copyCosts x (i + 1)
 unfolding copyCosts copyCost countBelow drawingAt
 cost-next x i = rw native.Mathlib.Numerals.add-one (go (isDrawing (x i)) (countBelow i (drawingAt x)))
   where
@@ -339,24 +347,24 @@ node-fits l i h =
       b-fits = omega (arith, h (6 * i + 4), h (6 * i + 4 + 1));
     }
 
--- ---- the fields of a drawing that rule 6 takes
-module _ (s m : ℕ) (n : Node) (right : fieldsRight requirementSorts s m n ≡ true) where
-  pub symbol-right : n .op ≡ 27 → (n .q < 8) × (n .a < s)
-  unfolding fieldRight qUse aUse
-  symbol-right e = (
-    ltb-true _ _ (and-left (ltb (n .q) 8) true (subst (λ (k : ℕ). fieldRight s m (qUse k) (n .q) ≡ true) e (q-right s m n right))),
-    ltb-true _ _ (and-left (ltb (n .a) s) true (subst (λ (k : ℕ). fieldRight s m (aUse k) (n .a) ≡ true) e (a-right s m n right))),
-  )
+-- ---- drawings take at most 12 nodes
+DrawingTold : List ℕ → Node → ℕ → Type 0
+DrawingTold y n k =
+    fieldRight (headerOf y .signals) (headerOf y .names) (qUse k) (n .q) ≡ true
+    → fieldRight (headerOf y .signals) (headerOf y .names) (aUse k) (n .a) ≡ true
+    → Tells y (undrawn (formulaOf (formulaOp k) n noPropositions noFormulas)) (undrawn (formulaOf (formulaOp k) n noPropositions noFormulas)) 12
 
-  pub mark-right : n .op ≡ 28 → n .a < m
-  unfolding fieldRight aUse
-  mark-right e = ltb-true _ _ (and-left (ltb (n .a) m) true (subst (λ (k : ℕ). fieldRight s m (aUse k) (n .a) ≡ true) e (a-right s m n right)))
-
-  pub gap-right : n .op ≡ 29 → (n .q / 16 < m) × (n .q % 16 < m)
-  unfolding fieldRight qUse
-  gap-right e =
-      let both : (ltb (n .q / 16) m && ltb (n .q % 16) m) ≡ true = subst (λ (k : ℕ). fieldRight s m (qUse k) (n .q) ≡ true) e (q-right s m n right) in
-      (ltb-true _ _ (and-left (ltb (n .q / 16) m) _ both), ltb-true _ _ (and-right (ltb (n .q / 16) m) _ both))
+drawing-told : {y : List ℕ} (n : Node) → Ready y → NodeFits n → isDrawing n ≡ true
+    → fieldsRight requirementSorts (headerOf y .signals) (headerOf y .names) n ≡ true → Tells y (drawingOf n) (drawingOf n) 12
+unfolding drawingOf DrawingTold fieldRight qUse aUse formulaOf formulaOp undrawn
+drawing-told {y} n ready fits drawing right =
+    let s = headerOf y .signals in
+    let m = headerOf y .names in
+    drawing-cases (DrawingTold y n)
+    (λ q a. symbol-told ready (symbolOf (n .q)) (ltb-true _ _ (and-left (ltb (n .a) s) true a)))
+    (λ q a. mark-told ready (ltb-true _ _ (and-left (ltb (n .a) m) true a)))
+    (λ q a. gap-told ready (ltb-true _ _ (and-left (ltb (n .q / 16) m) _ q)) (ltb-true _ _ (and-right (ltb (n .q / 16) m) _ q)) (fits .a-fits) (fits .b-fits))
+    n drawing (q-right s m n right) (a-right s m n right)
 
 pub gap-is : (n : Node) → isDrawing n ≡ true → (n .op ≡ 27 → ⊥) → (n .op ≡ 28 → ⊥) → n .op ≡ 29
 unfolding isDrawing
@@ -365,28 +373,30 @@ gap-is n e a b =
     let high = leb-true (n .op) 29 (and-right (leb 27 (n .op)) _ e) in
     omega arith
 
--- ---- one node copied, n being node i
-module _ (x : ℕ → Node) (i : ℕ) {n : Node} (is : n ≡ x i) (kept : operandsRight requirementSorts x i ≡ true) where
-  pub copied-drawing : {y z : List ℕ} {r : ℕ} → isDrawing n ≡ true → Emits y z r 12 (drawingOf n) → (Step y z (copyCost (x i))) × (Stands x i z r)
-  unfolding copyCost
-  copied-drawing {y} {z} {r} drawing e =
-      let here : isDrawing (x i) ≡ true = ap isDrawing (sym is) ∙ drawing in (
-        subst (λ (b : Bool). Step y z (cond b 12 1)) (sym here) (e .step),
-        drawing-stands kept here (subst (λ (o : Node). Emits y z r 12 (drawingOf o)) is e),
-      )
+-- ---- node i copied
+copied : {y z map : List ℕ} {r : ℕ} (x : ℕ → Node) (i : ℕ) → Ready y → count y + 12 ≤ mostNodes
+    → fieldsRight requirementSorts (headerOf y .signals) (headerOf y .names) (x i) ≡ true → operandsRight requirementSorts x i ≡ true
+    → Mapped x i y map → Copied map (x i) y z r → (Step y z (copyCost (x i))) × (Stands x i z r)
+unfolding copyCost
+copied {y} {z} {r = r} x i ready room right kept mapped (byOthers drawing fits w) =
+    let e = drawing-told (x i) ready fits drawing right y z r 0 (stay (ready .good)) room w in
+    (subst (λ (b : Bool). Step y z (cond b 12 1)) (sym drawing) (e .step), drawing-stands kept drawing e)
+copied {y} {z} x i ready room right kept mapped (itself plain fits put) =
+    let a = given-a kept mapped in
+    let b = given-b kept mapped in
+    let new = put-added (may-copy (x i) (ready .good) (omega arith) fits plain right a b) put in
+    (subst (λ (b : Bool). Step y z (cond b 12 1)) (sym plain) (new .step), copied-stands kept (some-sort _ _ (x i) right) plain a b new)
 
-  module _ (y map : List ℕ) (right : fieldsRight requirementSorts (headerOf y .signals) (headerOf y .names) (x i) ≡ true) (mapped : Mapped x i y map) (plain : isDrawing n ≡ false) where
-    here-plain : isDrawing (x i) ≡ false
-    here-plain = ap isDrawing (sym is) ∙ plain
-
-    pub may-copied : Good y → count y < mostNodes → NodeFits (x i) → Addable y (copiedNode map n)
-    may-copied good room fits =
-        rw is (may-copy (x i) good room fits here-plain right (given-a kept mapped) (given-b kept mapped))
-
-    pub copied-plain : {z : List ℕ} {r : ℕ} → Added y z r (copiedNode map n) → (Step y z (copyCost (x i))) × (Stands x i z r)
-    unfolding copyCost
-    copied-plain {z} {r} new = (
-      subst (λ (b : Bool). Step y z (cond b 12 1)) (sym here-plain) (new .step),
-      copied-stands kept (some-sort _ _ (x i) right) here-plain (given-a kept mapped) (given-b kept mapped)
-          (subst (λ (o : Node). Added y z r (copiedNode map o)) is new),
+-- one turn of the loop over the n nodes of a sheet
+pub copied-next : {x y z map nodes : List ℕ} {n r : ℕ} (i : ℕ) → Ready x → count x + 768 ≤ mostNodes → NodesIn x nodes n → i < n → length map ≡ 64
+    → Step x y (copyCosts (nodeAt nodes) i) → Mapped (nodeAt nodes) i y map → Copied map (nodeAt nodes i) y z r
+    → (Step x z (copyCosts (nodeAt nodes) (i + 1))) × (Mapped (nodeAt nodes) (i + 1) z (set map i r))
+copied-next {y = y} {map = map} {nodes = nodes} i ready room sheet less long s mapped new =
+    let few = sheet .few in
+    let right : fieldsRight requirementSorts (headerOf y .signals) (headerOf y .names) (nodeAt nodes i) ≡ true
+    = rw (s .signals, s .names) (sheet .fields i less)
+    in
+    let e = copied (nodeAt nodes) i (ready-kept s ready) (omega (arith, s .few, costs-most (nodeAt nodes) i)) right (sheet .operands i less) mapped new in (
+      wider _ (omega (arith, cost-next (nodeAt nodes) i)) (steps s (e .0)),
+      mapped-next (nodeAt nodes) i map (omega arith) (mapped-kept (nodeAt nodes) i map (e .0) mapped) (e .1),
     )

@@ -1,6 +1,8 @@
 -- Laws of the emission, for this crate and the crates above.
+pub mod Calls
 pub mod Steps
 pub mod Nodes
+pub mod Plans
 pub mod SharedNodes
-pub mod Symbols
+pub mod Drawings
 pub mod Copied

@@ -1,26 +1,27 @@
--- New nodes leave the earlier ones: steps compose, and what a node is stays.
-use Prim.Native.Nat.{ℕ, _+_, _*_, _^_, _≤_, _<_}
+-- New nodes leave the earlier ones: steps compose, what a node is stays, and one node more is a step.
+use Prim.Native.Nat.{ℕ, _+_, _*_, _≤_, _<_}
 use mathlib.Core.Bool.{Bool, true, false, cond, _&&_}
 use mathlib.Core.List.{List}
 use mathlib.Core.Logic.{inl, inr}
 use mathlib.Core.Path.{_≡_, refl, sym, _∙_, ap, ap₂, subst}
 use native.Mathlib.Omega.{arith}
-use borrow.Author.Tests.{ltb-true, eqb-true, eqb-false}
-use lib.Dec.{ltb, eqb}
+use borrow.Author.Tests.{ltb-true, lt-ltb, leb-true, le-leb, eqb-true, eqb-false}
+use lib.Dec.{leb, ltb, eqb}
 use lib.ListN.{length, getD, drop}
 use Rattle.semantics.specs.Proposition.{Proposition}
 use Rattle.semantics.specs.Formula.{Formula}
-use Rattle.semantics.proofs.Tests.{test, and-intro}
+use Rattle.semantics.proofs.Tests.{test, and-intro, and-left, and-right}
 use Rattle.stored.specs.declared.Node.{Node}
 use Rattle.stored.specs.declared.Header.{Header}
 use Rattle.stored.specs.Bytes.{word}
 use Rattle.stored.specs.Node.{emittedSorts, sortOf, sortBelow, aUse, bUse, fieldsRight, operandRight, operandsRight}
-use Rattle.stored.specs.Tree.{propositionOp, formulaOp, propositionOf, formulaOf}
 use Rattle.stored.specs.Sheet.{headerOf}
-use Rattle.stored.specs.Written.{nodeIn, putNode, putHeader, emittedHeader}
+use Rattle.stored.specs.Written.{nodeIn, NodeFits, putNode, putHeader, emittedHeader}
 use Rattle.stored.proofs.Written.{put-length, put-back, put-read, put-other, header-length, header-back, header-nodes, header-byte, header-read, header-rest}
-use Rattle.stored.proofs.Tree.{proposition-law, formula-law, proposition-agree, formula-agree}
-use Rattle.emission.specs.Emission.{count, propositionIn, formulaIn, Good, Step, HasProposition, Has, Emits, EmitsProposition, Addable, Added, Shared, Ready}
+use Rattle.stored.proofs.Tree.{proposition-agree, formula-agree}
+use Rattle.emission.specs.Bound.{mostNodes}
+use Rattle.emission.specs.Emission.{count, propositionIn, formulaIn, Good, Step, HasProposition, Has, Emits, Shared, Ready}
+use Rattle.emission.specs.Plan.{node, fits, appended, Put}
 
 -- ---- steps
 pub stay : {x : List ℕ} → Good x → Step x x 0
@@ -85,13 +86,6 @@ has-kept {x} {y} {a = a} s h =
       tree = formula-agree (nodeIn y) (nodeIn x) a (λ i l. s .same i (omega arith)) ∙ h .tree;
     }
 
--- whatever formula a node is, it is its own
-pub formed : {y : List ℕ} {a : ℕ} {f : Formula} → Has y a f → Has y a (formulaIn y a)
-formed h = record { below = h .below; sorted = h .sorted; tree = refl }
-
-pub formed-proposition : {y : List ℕ} {a : ℕ} {p : Proposition} → HasProposition y a p → HasProposition y a (propositionIn y a)
-formed-proposition h = record { below = h .below; sorted = h .sorted; tree = refl }
-
 pub shared-kept : {x y : List ℕ} {k : ℕ} (j : ℕ) → Step x y k → Shared x j → Shared y j
 shared-kept j s h =
     record {
@@ -113,10 +107,6 @@ after s e = record { step = steps s (e .step); has = e .has }
 pub within-cost : {x y : List ℕ} {r j : ℕ} {f : Formula} (k : ℕ) → j ≤ k → Emits x y r j f → Emits x y r k f
 within-cost k h e = record { step = wider k h (e .step); has = e .has }
 
-pub emits-as : {x y : List ℕ} {r k : ℕ} {f g : Formula} → f ≡ g → Emits x y r k f → Emits x y r k g
-emits-as e h =
-    record { step = h .step; has = record { below = h .has .below; sorted = h .has .sorted; tree = h .has .tree ∙ e } }
-
 -- ---- one node more
 sort-same : (x y : ℕ → Node) (i v : ℕ) → ((k : ℕ) → k < i → y k ≡ x k) → sortBelow emittedSorts y i v ≡ sortBelow emittedSorts x i v
 unfolding sortBelow
@@ -137,9 +127,21 @@ operands-same x y i h =
     ap (λ (n : Node). operandRight emittedSorts y i (aUse (n .op)) (n .a) && operandRight emittedSorts y i (bUse (n .op)) (n .b)) (h i (omega arith))
     ∙ ap₂ _&&_ (operand-same x y i (aUse (x i .op)) (x i .a) less) (operand-same x y i (bUse (x i .op)) (x i .b) less)
 
--- the bytes with node n put after the last
-unfoldable pub appended : List ℕ → Node → List ℕ
-appended x n = putHeader (putNode x (count x) n) (headerOf x .signals) (headerOf x .names) (count x + 1)
+-- node n may come next
+pub record Addable (y : List ℕ) (n : Node) : Type 0 where
+  pub good : Good y
+  pub room : count y < mostNodes
+  pub fields : NodeFits n
+  pub right : fieldsRight emittedSorts (headerOf y .signals) (headerOf y .names) n ≡ true
+  pub a-right : operandRight emittedSorts (nodeIn y) (count y) (aUse (n .op)) (n .a) ≡ true
+  pub b-right : operandRight emittedSorts (nodeIn y) (count y) (bUse (n .op)) (n .b) ≡ true
+
+-- it came, as node r
+pub record Added (x y : List ℕ) (r : ℕ) (n : Node) : Type 0 where
+  pub step : Step x y 1
+  pub exact : count y ≡ count x + 1
+  pub place : r ≡ count x
+  pub node : nodeIn y r ≡ n
 
 module _ (x : List ℕ) (n : Node) (may : Addable x n) where
   c : ℕ
@@ -155,13 +157,13 @@ module _ (x : List ℕ) (n : Node) (may : Addable x n) where
   unfolding c
   inside = omega (arith, may .room, may .good .long)
 
-  fits : 9 ≤ length (putNode x c n)
+  held : 9 ≤ length (putNode x c n)
   unfolding c
-  fits = rw put-length (omega (arith, may .good .long))
+  held = rw put-length (omega (arith, may .good .long))
 
   head : headerOf (appended x n) ≡ record { signals = s; names = m; nodes = c + 1; clauses = 0 }
   unfolding appended c s m
-  head = header-read (putNode x c n) s m (c + 1) fits
+  head = header-read (putNode x c n) s m (c + 1) held
 
   size-same : length (appended x n) ≡ length x
   unfolding appended c s m
@@ -181,15 +183,15 @@ module _ (x : List ℕ) (n : Node) (may : Addable x n) where
 
   version-is : getD (appended x n) 2 0 ≡ 1
   unfolding appended c s m emittedHeader
-  version-is = header-byte (putNode x c n) s m (c + 1) fits 2 (omega arith)
+  version-is = header-byte (putNode x c n) s m (c + 1) held 2 (omega arith)
 
   kind-is : getD (appended x n) 3 0 ≡ 2
   unfolding appended c s m emittedHeader
-  kind-is = header-byte (putNode x c n) s m (c + 1) fits 3 (omega arith)
+  kind-is = header-byte (putNode x c n) s m (c + 1) held 3 (omega arith)
 
   rest-is : word (appended x n) 0 ≡ 7 + 6 * (c + 1)
   unfolding appended c s m
-  rest-is = header-rest (putNode x c n) s m (c + 1) fits
+  rest-is = header-rest (putNode x c n) s m (c + 1) held
 
   node-right : (i : ℕ) → i < c + 1 → fieldsRight emittedSorts s m (nodeIn (appended x n) i) ≡ true
   unfolding c s m
@@ -216,7 +218,7 @@ module _ (x : List ℕ) (n : Node) (may : Addable x n) where
             operands-same (nodeIn x) (nodeIn (appended x n)) i (λ k l. is-old k (λ q. omega arith)) ∙ may .good .operands-right i (omega arith)
       ]
 
-  pub added : Added x (appended x n) (count x) n
+  added : Added x (appended x n) (count x) n
   unfolding c s m
   added =
       let h = head in
@@ -256,67 +258,62 @@ module _ (x : List ℕ) (n : Node) (may : Addable x n) where
         node = is-new;
       }
 
--- the tree of a new node
-module _ {x y : List ℕ} {r : ℕ} {n : Node} (new : Added x y r n) where
-  new-below : r < count y
-  new-below = omega (arith, new .exact, new .place)
+-- a node that fits, in numbers
+pub record Fits (x : List ℕ) (n : Node) : Type 0 where
+  pub long : 8192 ≤ length x
+  pub fields : NodeFits n
+  pub room : count x < mostNodes
 
-  pub made-proposition : (p : Proposition) → sortOf emittedSorts (n .op) ≡ 1 → propositionOf (propositionOp (n .op)) n (propositionIn y) ≡ p → EmitsProposition x y r 1 p
-  unfolding propositionIn
-  made-proposition p s e =
-      record {
-        step = new .step;
-        has =
-            record {
-              below = new-below;
-              sorted = rw (new .node) s;
-              tree =
-                  proposition-law emittedSorts (nodeIn y) r (new .step .good .operands-right r new-below)
-                  ∙ ap (λ (o : Node). propositionOf (propositionOp (o .op)) o (propositionIn y)) (new .node)
-                  ∙ e;
-            };
-      }
+pub fits-open : (x : List ℕ) (n : Node) → fits x n ≡ true → Fits x n
+unfolding fits
+fits-open x n e =
+    let all = and-right (leb 8192 (length x)) _ e in
+    let four = and-left (ltb (n .op) 256 && (ltb (n .q) 256 && (ltb (n .a) 65536 && ltb (n .b) 65536))) _ all in
+    let three = and-right (ltb (n .op) 256) _ four in
+    let two = and-right (ltb (n .q) 256) _ three in
+    record {
+      long = leb-true 8192 (length x) (and-left (leb 8192 (length x)) _ e);
+      fields =
+          record {
+            op-fits = ltb-true _ 256 (and-left (ltb (n .op) 256) _ four);
+            q-fits = ltb-true _ 256 (and-left (ltb (n .q) 256) _ three);
+            a-fits = ltb-true _ 65536 (and-left (ltb (n .a) 65536) _ two);
+            b-fits = ltb-true _ 65536 (and-right (ltb (n .a) 65536) _ two);
+          };
+      room = ltb-true (count x) mostNodes (and-right (ltb (n .op) 256 && (ltb (n .q) 256 && (ltb (n .a) 65536 && ltb (n .b) 65536))) _ all);
+    }
 
-  pub made-formula : (f : Formula) → sortOf emittedSorts (n .op) ≡ 2 → formulaOf (formulaOp (n .op)) n (propositionIn y) (formulaIn y) ≡ f → Emits x y r 1 f
-  unfolding propositionIn formulaIn
-  made-formula f s e =
-      record {
-        step = new .step;
-        has =
-            record {
-              below = new-below;
-              sorted = rw (new .node) s;
-              tree =
-                  formula-law emittedSorts (nodeIn y) r (new .step .good .operands-right r new-below)
-                  ∙ ap (λ (o : Node). formulaOf (formulaOp (o .op)) o (propositionIn y) (formulaIn y)) (new .node)
-                  ∙ e;
-            };
-      }
+fits-made : (x : List ℕ) (n : Node) → Fits x n → fits x n ≡ true
+unfolding fits
+fits-made x n h =
+    let f = h .fields in
+    and-intro _ _ (le-leb 8192 (length x) (h .long))
+    (and-intro _ _
+    (and-intro _ _ (lt-ltb _ 256 (f .op-fits))
+    (and-intro _ _ (lt-ltb _ 256 (f .q-fits)) (and-intro _ _ (lt-ltb _ 65536 (f .a-fits)) (lt-ltb _ 65536 (f .b-fits)))))
+    (lt-ltb (count x) mostNodes (h .room)))
 
--- the same from the fields as they are read
-pub emitted : {x y z : List ℕ} {n : Node} {s m k : ℕ} → Addable x n → s ≡ getD x 4 0 → m ≡ getD x 5 0 → k ≡ word x 6 → y ≡ putNode x k n → z ≡ putHeader y s m (k + 1) → Added x z k n
+-- it is written where it fits, and nothing where it does not
+pub put-none : {x : List ℕ} {n : Node} → fits x n ≡ false → Put n x x 0
+put-none e = record { bytes = rw e; root = rw e }
+
+pub put-made : {x y z : List ℕ} {n : Node} {s m k : ℕ} → fits x n ≡ true → s ≡ getD x 4 0 → m ≡ getD x 5 0 → k ≡ count x
+    → y ≡ putNode x k n → z ≡ putHeader y s m (k + 1) → Put n x z k
 unfolding appended headerOf
-emitted {x} {n = n} may es em ek ey ez = rw (ez, ey, es, em, ek) (added x n may)
+put-made e es em ek ey ez = record { bytes = rw e (rw (ez, ey, es, em, ek)); root = rw e ek }
 
--- a contract speaks of operands as the nodes they are; these put the formulas in their place
-pub over : {x y : List ℕ} {a r k : ℕ} {f : Formula} (t : Formula → Formula) → Has x a f → Emits x y r k (t (formulaIn x a)) → Emits x y r k (t f)
-over t h e = emits-as (ap t (h .tree)) e
+written : {x : List ℕ} {n : Node} → Good x → count x < mostNodes → NodeFits n → fits x n ≡ true
+written {x} {n} good room fields = fits-made x n (record { long = good .long; fields = fields; room = room })
 
-pub over₂ : {x y : List ℕ} {a b r k : ℕ} {f g : Formula} (t : Formula → Formula → Formula) → Has x a f → Has x b g → Emits x y r k (t (formulaIn x a) (formulaIn x b)) → Emits x y r k (t f g)
-over₂ t h i e = emits-as (ap₂ t (h .tree) (i .tree)) e
+root-is : {x y : List ℕ} {r : ℕ} {n : Node} → fits x n ≡ true → Put n x y r → r ≡ count x
+root-is {x} e put = put .root ∙ ap (λ (b : Bool). cond b (count x) 0) e
 
-pub over-proposition : {x y : List ℕ} {a r k : ℕ} {p : Proposition} (t : Proposition → Formula) → HasProposition x a p → Emits x y r k (t (propositionIn x a)) → Emits x y r k (t p)
-over-proposition t h e = emits-as (ap t (h .tree)) e
+pub put-place : {x y : List ℕ} {r op q a b : ℕ} → Good x → count x < mostNodes → op < 256 → q < 256 → a < 65536 → b < 65536
+    → Put (node op q a b) x y r → r ≡ count x
+put-place good room o q a b put = root-is (written good room (record { op-fits = o; q-fits = q; a-fits = a; b-fits = b })) put
 
-pub at : {y : List ℕ} {a b : ℕ} {f : Formula} → a ≡ b → Has y a f → Has y b f
-at {y} {f = f} e h = subst (λ (i : ℕ). Has y i f) e h
-
-pub at-proposition : {y : List ℕ} {a b : ℕ} {p : Proposition} → a ≡ b → HasProposition y a p → HasProposition y b p
-at-proposition {y} {p = p} e h = subst (λ (i : ℕ). HasProposition y i p) e h
-
--- masks stay masks of the sheet's names
-pub small-kept : {x y : List ℕ} {k a : ℕ} → Step x y k → a < 2 ^ headerOf x .names → a < 2 ^ headerOf y .names
-small-kept {a = a} s h = subst (λ (m : ℕ). a < 2 ^ m) (sym (s .names)) h
-
-pub still : {x y : List ℕ} {a r k : ℕ} {p : Proposition} (t : Proposition → Proposition) → HasProposition x a p → EmitsProposition x y r k (t (propositionIn x a)) → HasProposition y r (t p)
-still t h e = record { below = e .has .below; sorted = e .has .sorted; tree = e .has .tree ∙ ap t (h .tree) }
+pub put-added : {x y : List ℕ} {r : ℕ} {n : Node} → Addable x n → Put n x y r → Added x y r n
+put-added {x} {y} {r} {n} may put =
+    let e = written (may .good) (may .room) (may .fields) in
+    let bytes : y ≡ appended x n = put .bytes ∙ ap (λ (b : Bool). cond b (appended x n) x) e in
+    rw (bytes, root-is e put) (added x n may)

@@ -23,3 +23,7 @@ unfoldable pub nodeBound : List ℕ → ℕ
 nodeBound s =
     headerOf s .nodes + 11 * drawings s + 3 + 2 * headerOf s .names
     + headerOf s .clauses * (16 + 5 * headerOf s .names)
+
+-- the largest such bound: 64 nodes, all of them drawings, 3 names and 8 clauses
+abbrev pub mostNodes : ℕ
+mostNodes = 1025

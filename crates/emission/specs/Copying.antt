@@ -1,6 +1,6 @@
 -- The sheet's nodes, as they are copied.
 use Prim.Native.Nat.{ℕ, _+_, _*_, _≤_, _<_}
-use mathlib.Core.Bool.{true, cond, _||_}
+use mathlib.Core.Bool.{true, false, cond, _||_}
 use mathlib.Core.List.{List}
 use mathlib.Core.Path.{_≡_}
 use lib.Dec.{eqb}
@@ -14,8 +14,10 @@ use Rattle.stored.specs.Node.{requirementSorts, sortOf, aUse, bUse, nodeAt, fie
 use Rattle.stored.specs.Tree.{propositionAt, formulaOp, formulaOf, formulaAt}
 use Rattle.stored.specs.Reach.{entryOf}
 use Rattle.stored.specs.Sheet.{headerOf}
+use Rattle.stored.specs.Written.{NodeFits}
 use Rattle.emission.specs.Bound.{isDrawing, drawingAt}
 use Rattle.emission.specs.Emission.{HasProposition, Has}
+use Rattle.emission.specs.Plan.{Put, Wrote}
 
 -- node r stands for node i of the sheet, its drawings told by other formulas
 pub record Stands (x : ℕ → Node) (i : ℕ) (y : List ℕ) (r : ℕ) : Type 0 where
@@ -43,6 +45,11 @@ noFormulas i = nothing
 
 unfoldable pub drawingOf : Node → Formula
 drawingOf n = undrawn (formulaOf (formulaOp (n .op)) n noPropositions noFormulas)
+
+-- x became y by the copy of node n, which is node r: told by other formulas where it is a drawing
+pub data Copied (map : List ℕ) (n : Node) (x y : List ℕ) (r : ℕ) : Type 0 where
+  byOthers : isDrawing n ≡ true → NodeFits n → Wrote x y r (drawingOf n) → Copied map n x y r
+  itself : isDrawing n ≡ false → NodeFits n → Put (copiedNode map n) x y r → Copied map n x y r
 
 -- the most nodes a copy takes; the first i nodes together
 unfoldable pub copyCost : Node → ℕ

@@ -7,16 +7,12 @@ use lib.ListN.{length, getD, drop}
 use Rattle.semantics.specs.Proposition.{Proposition, name}
 use Rattle.semantics.specs.Formula.{Formula, equal, scount}
 use Rattle.semantics.specs.Translation.{anywhere, extended, nothing}
-use Rattle.stored.specs.declared.Node.{Node}
 use Rattle.stored.specs.Bytes.{word}
-use Rattle.stored.specs.Node.{emittedSorts, sortOf, aUse, bUse, fieldsRight, operandRight, operandsRight}
+use Rattle.stored.specs.Node.{emittedSorts, sortOf, fieldsRight, operandsRight}
 use Rattle.stored.specs.Tree.{propositionAt, formulaAt}
 use Rattle.stored.specs.Sheet.{headerOf}
-use Rattle.stored.specs.Written.{nodeIn, NodeFits, emittedLength}
-
--- as many nodes as 8,192 bytes hold
-abbrev pub mostNodes : ℕ
-mostNodes = 1363
+use Rattle.stored.specs.Written.{nodeIn, emittedLength}
+use Rattle.emission.specs.Bound.{mostNodes}
 
 abbrev pub count : List ℕ → ℕ
 count y = headerOf y .nodes
@@ -64,37 +60,10 @@ pub record Has (y : List ℕ) (a : ℕ) (f : Formula) : Type 0 where
   pub sorted : sortOf emittedSorts (nodeIn y a .op) ≡ 2
   pub tree : formulaIn y a ≡ f
 
--- node a is a formula
-abbrev pub Formed : List ℕ → ℕ → Type 0
-Formed y a = Has y a (formulaIn y a)
-
-abbrev pub FormedProposition : List ℕ → ℕ → Type 0
-FormedProposition y a = HasProposition y a (propositionIn y a)
-
--- x became y by at most k new nodes, and node r is formula f, or proposition p
+-- x became y by at most k new nodes, and node r is formula f
 pub record Emits (x y : List ℕ) (r k : ℕ) (f : Formula) : Type 0 where
   pub step : Step x y k
   pub has : Has y r f
-
-pub record EmitsProposition (x y : List ℕ) (r k : ℕ) (p : Proposition) : Type 0 where
-  pub step : Step x y k
-  pub has : HasProposition y r p
-
--- node n may come next
-pub record Addable (y : List ℕ) (n : Node) : Type 0 where
-  pub good : Good y
-  pub room : count y < mostNodes
-  pub fits : NodeFits n
-  pub right : fieldsRight emittedSorts (headerOf y .signals) (headerOf y .names) n ≡ true
-  pub a-right : operandRight emittedSorts (nodeIn y) (count y) (aUse (n .op)) (n .a) ≡ true
-  pub b-right : operandRight emittedSorts (nodeIn y) (count y) (bUse (n .op)) (n .b) ≡ true
-
--- it came, as node r
-pub record Added (x y : List ℕ) (r : ℕ) (n : Node) : Type 0 where
-  pub step : Step x y 1
-  pub exact : count y ≡ count x + 1
-  pub place : r ≡ count x
-  pub node : nodeIn y r ≡ n
 
 -- The nodes that are written once, at fixed numbers: anywhere, extended and nothing, and of each name below j the name and its one mark.
 pub record Shared (y : List ℕ) (j : ℕ) : Type 0 where

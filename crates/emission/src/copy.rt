@@ -8,12 +8,12 @@ ghost use mathlib.Core.Bool.{true};
 ghost use mathlib.Core.Path.{_≡_};
 ghost use Prim.Native.Nat.{_+_, _*_, _≤_};
 ghost use lib.ListN.{length};
-ghost use Rattle.stored.specs.Node.{requirementSorts, nodeAt, fieldsRight, operandsRight};
-ghost use Rattle.stored.specs.Sheet.{headerOf};
+ghost use Rattle.stored.specs.Node.{nodeAt};
 ghost use Rattle.stored.specs.Written.{NodeFits};
-ghost use Rattle.emission.specs.Bound.{isDrawing};
-ghost use Rattle.emission.specs.Emission.{mostNodes, count, Step, Emits, Addable, Added, Ready};
-ghost use Rattle.emission.specs.Copying.{Stands, Mapped, mappedTo, copiedNode, drawingOf, copyCost, copyCosts, NodesIn};
+ghost use Rattle.emission.specs.Bound.{mostNodes, isDrawing};
+ghost use Rattle.emission.specs.Emission.{count, Step, Ready};
+ghost use Rattle.emission.specs.Plan.{Put, Wrote};
+ghost use Rattle.emission.specs.Copying.{Mapped, mappedTo, copiedNode, drawingOf, Copied, copyCosts, NodesIn};
 
 // Field v of a node, used so: an operand is the node that stands for it.
 fn mapped(map: &[usize], what: usize, v: usize) -> usize
@@ -26,28 +26,26 @@ fn mapped(map: &[usize], what: usize, v: usize) -> usize
 }
 
 fn put_copy(out: &mut [u8], map: &[usize], x: Node) -> usize
-    requires { ⌜ Addable (now out) (copiedNode (now map) x) ⌝ }
-    ensures { λ r. ⌜ Added (now (out .entry)) (now (out .exit)) r (copiedNode (now (map .entry)) x) ⌝ }
+    ensures { λ r. ⌜ Put (copiedNode (now (map .entry)) x) (now (out .entry)) (now (out .exit)) r ⌝ }
 {
     let op = x.op;
-    let q = x.q;
     let a = mapped(map, nodes::a_use(op), x.a);
     let b = mapped(map, nodes::b_use(op), x.b);
-    node::emit(out, Node { op, q, a, b })
+    node::put(out, op, x.q, a, b)
 }
 
 fn put_drawing(out: &mut [u8], x: Node) -> usize
-    requires { ⌜ (Ready (now out)) × (count (now out) + 12 ≤ mostNodes) × (isDrawing x ≡ true) × (fieldsRight requirementSorts (headerOf (now out) .signals) (headerOf (now out) .names) x ≡ true) × (NodeFits x) ⌝ }
-    ensures { λ r. ⌜ Emits (now (out .entry)) (now (out .exit)) r 12 (drawingOf x) ⌝ }
+    requires { ⌜ (isDrawing x ≡ true) × (NodeFits x) ⌝ }
+    ensures { λ r. ⌜ Wrote (now (out .entry)) (now (out .exit)) r (drawingOf x) ⌝ }
 {
     let op = x.op;
     let q = x.q;
     let a = x.a;
     let b = x.b;
-    if op == 27 {
+    if op == node::SYMBOL {
         return drawing::put_symbol(out, q, a);
     }
-    if op == 28 {
+    if op == node::MARK {
         return drawing::put_mark(out, a);
     }
     drawing::put_gap(out, q / 16, q % 16, a, b)
@@ -55,12 +53,12 @@ fn put_drawing(out: &mut [u8], x: Node) -> usize
 
 // Node i, where the map gives the nodes that stand for the earlier ones.
 fn copy_node(out: &mut [u8], map: &[usize], nodes: &[u8], i: usize) -> usize
-    requires { ⌜ (Ready (now out)) × (count (now out) + 12 ≤ mostNodes) × (6 * i + 6 ≤ length (now nodes)) × (fieldsRight requirementSorts (headerOf (now out) .signals) (headerOf (now out) .names) (nodeAt (now nodes) i) ≡ true) × (operandsRight requirementSorts (nodeAt (now nodes)) i ≡ true) × (Mapped (nodeAt (now nodes)) i (now out) (now map)) ⌝ }
-    ensures { λ r. ⌜ (Step (now (out .entry)) (now (out .exit)) (copyCost (nodeAt (now (nodes .entry)) i))) × (Stands (nodeAt (now (nodes .entry))) i (now (out .exit)) r) ⌝ }
+    requires { ⌜ 6 * i + 6 ≤ length (now nodes) ⌝ }
+    ensures { λ r. ⌜ Copied (now (map .entry)) (nodeAt (now (nodes .entry)) i) (now (out .entry)) (now (out .exit)) r ⌝ }
 {
     let x = nodes::node_at(nodes, i);
     let op = x.op;
-    if (27 <= op) & (op <= 29) {
+    if (node::SYMBOL <= op) & (op <= node::GAP) {
         return put_drawing(out, x);
     }
     put_copy(out, map, x)
@@ -68,7 +66,7 @@ fn copy_node(out: &mut [u8], map: &[usize], nodes: &[u8], i: usize) -> usize
 
 // The map from the sheet's n nodes to the nodes that stand for them.
 pub fn copy_nodes(out: &mut [u8], nodes: &[u8], n: usize) -> [usize; 64]
-    requires { ⌜ (Ready (now out)) × (count (now out) + 780 ≤ mostNodes) × (NodesIn (now out) (now nodes) n) ⌝ }
+    requires { ⌜ (Ready (now out)) × (count (now out) + 768 ≤ mostNodes) × (NodesIn (now out) (now nodes) n) ⌝ }
     ensures { λ r. ⌜ (Step (now (out .entry)) (now (out .exit)) (copyCosts (nodeAt (now (nodes .entry))) n)) × (Mapped (nodeAt (now (nodes .entry))) n (now (out .exit)) r) ⌝ }
 {
     let mut map = [0usize; 64];

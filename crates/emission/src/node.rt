@@ -1,13 +1,42 @@
-// One node more of the sheet that is being written, a function a constructor. Each gives the new node's number.
+// One node more of the sheet that is being written. Each function gives the new node's number.
 use stored::Node;
 use stored::bytes;
 use stored::writer;
-ghost use Prim.Native.Nat.{_<_};
-ghost use Rattle.semantics.specs.Proposition.{signal, name, negated};
-ghost use Rattle.semantics.specs.Formula.{point, stretch, unit, chop, conjunction, disjunction, slen, scount, negation, forSome};
-ghost use Rattle.stored.specs.Sheet.{headerOf};
-ghost use Rattle.stored.specs.Tree.{comparisonOf};
-ghost use Rattle.emission.specs.Emission.{mostNodes, count, propositionIn, formulaIn, Good, Formed, FormedProposition, Emits, EmitsProposition, Addable, Added};
+ghost use mathlib.Core.Path.{_≡_};
+ghost use Rattle.emission.specs.Plan.{fits, Put, node, opSignal, opName, opNegated, opPoint, opStretch, opUnit, opChop, opAnd, opOr, opLength, opCount, opNot, opSome};
+
+// The ops, as document 01 numbers them; 27 to 29 are drawings.
+pub const SIGNAL: usize = 3;
+
+pub const NAME: usize = 4;
+
+pub const NEGATED: usize = 5;
+
+pub const POINT: usize = 16;
+
+pub const STRETCH: usize = 17;
+
+pub const UNIT: usize = 19;
+
+pub const CHOP: usize = 20;
+
+pub const AND: usize = 21;
+
+pub const OR: usize = 22;
+
+pub const LENGTH: usize = 24;
+
+pub const COUNT: usize = 25;
+
+pub const SYMBOL: usize = 27;
+
+pub const MARK: usize = 28;
+
+pub const GAP: usize = 29;
+
+pub const NOT: usize = 30;
+
+pub const SOME: usize = 31;
 
 // The comparisons, as q has them.
 pub const BELOW: usize = 0;
@@ -20,151 +49,119 @@ pub const AT_LEAST: usize = 3;
 
 pub const ABOVE: usize = 4;
 
-// The next node, whatever it is.
-pub fn emit(out: &mut [u8], x: Node) -> usize
-    requires { ⌜ Addable (now out) x ⌝ }
-    ensures { λ r. ⌜ Added (now (out .entry)) (now (out .exit)) r x ⌝ }
+// The output that document 01 asks for, and its bound on a formula's nodes at its largest.
+const BYTES: usize = 8192;
+
+const NODES: usize = 1025;
+
+// The node's fields fit their bytes, and there is room for one node more.
+fn fits(out: &[u8], x: Node) -> bool
+    ensures { λ r. ⌜ r ≡ fits (now (out .entry)) x ⌝ }
 {
+    if out.len() < BYTES {
+        return false;
+    }
+    let op = x.op < 256;
+    let q = x.q < 256;
+    let a = x.a < 65536;
+    let b = x.b < 65536;
+    (op & (q & (a & b))) & (writer::count(out) < NODES)
+}
+
+// The next node, whatever it is; nothing is written where it does not fit.
+pub fn put(out: &mut [u8], op: usize, q: usize, a: usize, b: usize) -> usize
+    ensures { λ r. ⌜ Put (node op q a b) (now (out .entry)) (now (out .exit)) r ⌝ }
+{
+    let x = Node { op, q, a, b };
+    if !fits(out, x) {
+        return 0;
+    }
     let s = bytes::byte(out, 4);
     let m = bytes::byte(out, 5);
-    let n = bytes::word(out, 6);
+    let n = writer::count(out);
     let next = n + 1;
     writer::put_node(out, n, x);
     writer::put_header(out, s, m, next);
     n
 }
 
-pub fn put_chop(out: &mut [u8], a: usize, b: usize) -> usize
-    requires { ⌜ (Good (now out)) × (count (now out) < mostNodes) × (Formed (now out) a) × (Formed (now out) b) ⌝ }
-    ensures { λ r. ⌜ Emits (now (out .entry)) (now (out .exit)) r 1 (chop (formulaIn (now (out .entry)) a) (formulaIn (now (out .entry)) b)) ⌝ }
+pub fn put_signal(out: &mut [u8], k: usize) -> usize
+    ensures { λ r. ⌜ Put (node opSignal 0 k 0) (now (out .entry)) (now (out .exit)) r ⌝ }
 {
-    emit(out, Node { op: 20, q: 0, a, b })
+    put(out, SIGNAL, 0, k, 0)
+}
+
+pub fn put_name(out: &mut [u8], u: usize) -> usize
+    ensures { λ r. ⌜ Put (node opName 0 u 0) (now (out .entry)) (now (out .exit)) r ⌝ }
+{
+    put(out, NAME, 0, u, 0)
+}
+
+pub fn put_negated(out: &mut [u8], a: usize) -> usize
+    ensures { λ r. ⌜ Put (node opNegated 0 a 0) (now (out .entry)) (now (out .exit)) r ⌝ }
+{
+    put(out, NEGATED, 0, a, 0)
+}
+
+pub fn put_point(out: &mut [u8], a: usize) -> usize
+    ensures { λ r. ⌜ Put (node opPoint 0 a 0) (now (out .entry)) (now (out .exit)) r ⌝ }
+{
+    put(out, POINT, 0, a, 0)
+}
+
+pub fn put_stretch(out: &mut [u8], a: usize) -> usize
+    ensures { λ r. ⌜ Put (node opStretch 0 a 0) (now (out .entry)) (now (out .exit)) r ⌝ }
+{
+    put(out, STRETCH, 0, a, 0)
+}
+
+pub fn put_unit(out: &mut [u8], a: usize) -> usize
+    ensures { λ r. ⌜ Put (node opUnit 0 a 0) (now (out .entry)) (now (out .exit)) r ⌝ }
+{
+    put(out, UNIT, 0, a, 0)
+}
+
+pub fn put_chop(out: &mut [u8], a: usize, b: usize) -> usize
+    ensures { λ r. ⌜ Put (node opChop 0 a b) (now (out .entry)) (now (out .exit)) r ⌝ }
+{
+    put(out, CHOP, 0, a, b)
 }
 
 pub fn put_and(out: &mut [u8], a: usize, b: usize) -> usize
-    requires { ⌜ (Good (now out)) × (count (now out) < mostNodes) × (Formed (now out) a) × (Formed (now out) b) ⌝ }
-    ensures { λ r. ⌜ Emits (now (out .entry)) (now (out .exit)) r 1 (conjunction (formulaIn (now (out .entry)) a) (formulaIn (now (out .entry)) b)) ⌝ }
+    ensures { λ r. ⌜ Put (node opAnd 0 a b) (now (out .entry)) (now (out .exit)) r ⌝ }
 {
-    emit(out, Node { op: 21, q: 0, a, b })
+    put(out, AND, 0, a, b)
 }
 
 pub fn put_or(out: &mut [u8], a: usize, b: usize) -> usize
-    requires { ⌜ (Good (now out)) × (count (now out) < mostNodes) × (Formed (now out) a) × (Formed (now out) b) ⌝ }
-    ensures { λ r. ⌜ Emits (now (out .entry)) (now (out .exit)) r 1 (disjunction (formulaIn (now (out .entry)) a) (formulaIn (now (out .entry)) b)) ⌝ }
+    ensures { λ r. ⌜ Put (node opOr 0 a b) (now (out .entry)) (now (out .exit)) r ⌝ }
 {
-    emit(out, Node { op: 22, q: 0, a, b })
+    put(out, OR, 0, a, b)
+}
+
+// The length compared with b.
+pub fn put_length(out: &mut [u8], q: usize, b: usize) -> usize
+    ensures { λ r. ⌜ Put (node opLength q 0 b) (now (out .entry)) (now (out .exit)) r ⌝ }
+{
+    put(out, LENGTH, q, 0, b)
+}
+
+// How often proposition a holds, compared with b.
+pub fn put_count(out: &mut [u8], q: usize, a: usize, b: usize) -> usize
+    ensures { λ r. ⌜ Put (node opCount q a b) (now (out .entry)) (now (out .exit)) r ⌝ }
+{
+    put(out, COUNT, q, a, b)
 }
 
 pub fn put_not(out: &mut [u8], a: usize) -> usize
-    requires { ⌜ (Good (now out)) × (count (now out) < mostNodes) × (Formed (now out) a) ⌝ }
-    ensures { λ r. ⌜ Emits (now (out .entry)) (now (out .exit)) r 1 (negation (formulaIn (now (out .entry)) a)) ⌝ }
+    ensures { λ r. ⌜ Put (node opNot 0 a 0) (now (out .entry)) (now (out .exit)) r ⌝ }
 {
-    emit(
-        out,
-        Node {
-            op: 30,
-            q: 0,
-            a,
-            b: 0,
-        },
-    )
+    put(out, NOT, 0, a, 0)
 }
 
 // Some column for name u.
 pub fn put_some(out: &mut [u8], u: usize, a: usize) -> usize
-    requires { ⌜ (Good (now out)) × (count (now out) < mostNodes) × (u < headerOf (now out) .names) × (Formed (now out) a) ⌝ }
-    ensures { λ r. ⌜ Emits (now (out .entry)) (now (out .exit)) r 1 (forSome u (formulaIn (now (out .entry)) a)) ⌝ }
+    ensures { λ r. ⌜ Put (node opSome 0 a u) (now (out .entry)) (now (out .exit)) r ⌝ }
 {
-    emit(
-        out,
-        Node {
-            op: 31,
-            q: 0,
-            a,
-            b: u,
-        },
-    )
-}
-
-pub fn put_point(out: &mut [u8], a: usize) -> usize
-    requires { ⌜ (Good (now out)) × (count (now out) < mostNodes) × (FormedProposition (now out) a) ⌝ }
-    ensures { λ r. ⌜ Emits (now (out .entry)) (now (out .exit)) r 1 (point (propositionIn (now (out .entry)) a)) ⌝ }
-{
-    emit(
-        out,
-        Node {
-            op: 16,
-            q: 0,
-            a,
-            b: 0,
-        },
-    )
-}
-
-pub fn put_stretch(out: &mut [u8], a: usize) -> usize
-    requires { ⌜ (Good (now out)) × (count (now out) < mostNodes) × (FormedProposition (now out) a) ⌝ }
-    ensures { λ r. ⌜ Emits (now (out .entry)) (now (out .exit)) r 1 (stretch (propositionIn (now (out .entry)) a)) ⌝ }
-{
-    emit(
-        out,
-        Node {
-            op: 17,
-            q: 0,
-            a,
-            b: 0,
-        },
-    )
-}
-
-pub fn put_unit(out: &mut [u8], a: usize) -> usize
-    requires { ⌜ (Good (now out)) × (count (now out) < mostNodes) × (FormedProposition (now out) a) ⌝ }
-    ensures { λ r. ⌜ Emits (now (out .entry)) (now (out .exit)) r 1 (unit (propositionIn (now (out .entry)) a)) ⌝ }
-{
-    emit(
-        out,
-        Node {
-            op: 19,
-            q: 0,
-            a,
-            b: 0,
-        },
-    )
-}
-
-// The length compared with b.
-pub fn put_slen(out: &mut [u8], q: usize, b: usize) -> usize
-    requires { ⌜ (Good (now out)) × (count (now out) < mostNodes) × (q < 5) × (b < 65536) ⌝ }
-    ensures { λ r. ⌜ Emits (now (out .entry)) (now (out .exit)) r 1 (slen (comparisonOf q) b) ⌝ }
-{
-    emit(out, Node { op: 24, q, a: 0, b })
-}
-
-pub fn put_signal(out: &mut [u8], k: usize) -> usize
-    requires { ⌜ (Good (now out)) × (count (now out) < mostNodes) × (k < headerOf (now out) .signals) ⌝ }
-    ensures { λ r. ⌜ EmitsProposition (now (out .entry)) (now (out .exit)) r 1 (signal k) ⌝ }
-{
-    emit(
-        out,
-        Node {
-            op: 3,
-            q: 0,
-            a: k,
-            b: 0,
-        },
-    )
-}
-
-pub fn put_negated(out: &mut [u8], a: usize) -> usize
-    requires { ⌜ (Good (now out)) × (count (now out) < mostNodes) × (FormedProposition (now out) a) ⌝ }
-    ensures { λ r. ⌜ EmitsProposition (now (out .entry)) (now (out .exit)) r 1 (negated (propositionIn (now (out .entry)) a)) ⌝ }
-{
-    emit(
-        out,
-        Node {
-            op: 5,
-            q: 0,
-            a,
-            b: 0,
-        },
-    )
+    put(out, SOME, 0, a, u)
 }

@@ -1,16 +1,15 @@
 -- `clauses::placing::has` meets its contract.
-use native.Mathlib.Omega.{arith}
 use mathlib.Core.Path.{refl}
+use native.Mathlib.Omega.{arith}
+use Rattle.semantics.specs.Proposition.{bit}
 use Rattle.clauses.proofs.placing.has.Statement.{statement}
 use Rattle.clauses.proofs.placing.has.Tie as tie
-use Rattle.semantics.specs.Proposition.{bit}
-use Rattle.stored.specs.Reach.{joint}
 
 shr : tie.Need-shr-result
 shr c = omega arith
 
 returns : tie.Need-returns
-unfolding bit joint
+unfolding bit
 returns c = refl
 
 pub has-spec : {M : Type 1} → statement M

@@ -1,23 +1,30 @@
 -- `clauses::placing::put_placed` meets its contract.
-use Rattle.clauses.proofs.Names.{placed-cheap}
-use Rattle.emission.proofs.Steps.{within-cost}
 use borrow.Author.Needs.{needs}
+use native.Mathlib.Omega.{arith}
+use Rattle.semantics.specs.Translation.{placed}
+use Rattle.clauses.proofs.Names.{name-over-node}
 use Rattle.clauses.proofs.placing.put_placed.Statement.{statement}
 use Rattle.clauses.proofs.placing.put_placed.Tie as tie
 
-put-names-requires : tie.Need-put-names-requires
-put-names-requires c κs = (c .before .before .pre .0, c .before .before .pre .1, c .before .before .pre .2)
+put-name-requires : tie.Need-put-name-requires
+put-name-requires c κs = omega arith
+
+put-name-requires-2 : tie.Need-put-name-requires-2
+put-name-requires-2 c κs = omega arith
+
+put-name-requires-3 : tie.Need-put-name-requires-3
+put-name-requires-3 c κs = omega arith
 
 same-length : tie.Need-same-length
 same-length c = search needs
 
 returns : tie.Need-returns
-returns c = within-cost _ (placed-cheap _ (c .before .before .before .before .before .pre .0 .good .few-names) _ _ (c .before .before .before .before .before .pre .3) (c .before .before .before .before .before .pre .2 .small)) (c .before .before .put-names .ensures)
+unfolding placed
+returns c =
+    let c2 = c .before .before .before .before .before .before in
+    let c1 = c2 .before .before .before .before in
+    let second = name-over-node 1 _ _ (c1 .put-name .ensures) (c2 .put-name2 .ensures) in
+    name-over-node 0 _ _ second (c .before .before .put-name3 .ensures)
 
 pub put-placed-spec : {M : Type 1} → statement M
-put-placed-spec =
-    tie.close
-    (tie.spec
-    put-names-requires
-    same-length
-    returns)
+put-placed-spec = tie.close (tie.spec put-name-requires put-name-requires-2 put-name-requires-3 same-length returns)

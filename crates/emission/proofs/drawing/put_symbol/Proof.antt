@@ -1,116 +1,81 @@
 -- `emission::drawing::put_symbol` meets its contract.
-use mathlib.Core.Path.{_≡_}
-use Rattle.stored.specs.Tree.{symbolOf, comparisonOf}
-use Rattle.semantics.specs.Translation.{undrawnSymbol}
-use Rattle.semantics.specs.Proposition.{negated}
-use Rattle.semantics.specs.Formula.{unit, stretch, disjunction}
-use Rattle.emission.proofs.Symbols.{either-is}
-use Rattle.emission.proofs.Steps.{stay, steps, wider, within-cost, has-kept, proposition-kept, formed, formed-proposition, over₂, over-proposition, still}
-use native.Mathlib.Omega.{arith}
+use borrow.Author.Needs.{needs}
+use Rattle.semantics.specs.Translation.{anywhere, undrawnSymbol}
+use Rattle.stored.specs.Tree.{symbolOf}
+use Rattle.emission.specs.Plan.{signalled, everywhere, exactly, stretched, united}
+use Rattle.emission.proofs.Calls.{free}
+use Rattle.emission.proofs.Drawings.{either-is, low-is}
 use Rattle.emission.proofs.drawing.put_symbol.Statement.{statement}
 use Rattle.emission.proofs.drawing.put_symbol.Tie as tie
 
 returns : tie.Need-returns
-unfolding undrawnSymbol symbolOf
-returns c = rw (c .if1 .taken) (record { step = wider 12 (omega arith) (stay (c .before .before .pre .0 .good)); has = c .before .before .pre .0 .everywhere })
-
-put-slen-requires : tie.Need-put-slen-requires
-put-slen-requires c κs = (c .before .before .before .before .pre .0 .good, omega (arith, c .before .before .before .before .pre .1), omega arith, omega arith)
+unfolding undrawnSymbol symbolOf anywhere
+returns c = rw (c .if1 .taken) everywhere
 
 same-length : tie.Need-same-length
-same-length c = c .before .before .put-slen .ensures .step .size
+same-length c = search needs
 
 returns-2 : tie.Need-returns-2
-unfolding undrawnSymbol comparisonOf
-returns-2 c = rw (either-is _ (c .before .before .before .before .if2 .taken)) (within-cost 12 (omega arith) (c .before .before .put-slen .ensures))
-
-put-signal-requires : tie.Need-put-signal-requires
-put-signal-requires c κs = (c .before .before .before .before .pre .0 .good, omega (arith, c .before .before .before .before .pre .1), c .before .before .before .before .pre .3)
-
-put-unit-requires : tie.Need-put-unit-requires
-put-unit-requires c κs = (c .before .before .before .before .put-signal .ensures .step .good, omega (arith, c .before .before .before .before .before .before .before .before .before .pre .1, c .before .before .before .before .put-signal .ensures .step .few), formed-proposition (c .before .before .before .before .put-signal .ensures .has))
+unfolding symbolOf
+returns-2 c = rw (c .before .before .before .before .if2 .taken) (c .before .before .put-steady .ensures)
 
 same-length-2 : tie.Need-same-length-2
-same-length-2 c = steps (c .before .before .before .before .before .before .before .put-signal .ensures .step) (c .before .before .put-unit .ensures .step) .size
+same-length-2 c = search needs
 
 returns-3 : tie.Need-returns-3
-unfolding undrawnSymbol symbolOf
-returns-3 c = rw (c .before .before .before .before .if3 .taken) (record { step = wider 12 (omega arith) (steps (c .before .before .before .before .before .before .before .put-signal .ensures .step) (c .before .before .put-unit .ensures .step)); has = over-proposition unit (c .before .before .before .before .before .before .before .put-signal .ensures .has) (c .before .before .put-unit .ensures) .has })
-
-put-stretch-requires : tie.Need-put-stretch-requires
-put-stretch-requires c κs = (c .before .before .before .before .before .put-signal .ensures .step .good, omega (arith, c .before .before .before .before .before .before .before .before .before .before .pre .1, c .before .before .before .before .before .put-signal .ensures .step .few), formed-proposition (c .before .before .before .before .before .put-signal .ensures .has))
+unfolding undrawnSymbol
+returns-3 c = rw (either-is _ (c .before .before .before .before .if3 .taken)) (exactly (c .before .before .put-length .ensures))
 
 same-length-3 : tie.Need-same-length-3
-same-length-3 c = steps (c .before .before .before .before .before .before .before .before .put-signal .ensures .step) (c .before .before .put-stretch .ensures .step) .size
+same-length-3 c = search needs
 
 returns-4 : tie.Need-returns-4
 unfolding undrawnSymbol symbolOf
-returns-4 c = rw (c .before .before .before .before .if4 .taken) (record { step = wider 12 (omega arith) (steps (c .before .before .before .before .before .before .before .before .put-signal .ensures .step) (c .before .before .put-stretch .ensures .step)); has = over-proposition stretch (c .before .before .before .before .before .before .before .before .put-signal .ensures .has) (c .before .before .put-stretch .ensures) .has })
-
-put-negated-requires : tie.Need-put-negated-requires
-put-negated-requires c κs = (c .before .before .before .before .before .put-signal .ensures .step .good, omega (arith, c .before .before .before .before .before .before .before .before .before .before .pre .1, c .before .before .before .before .before .put-signal .ensures .step .few), formed-proposition (c .before .before .before .before .before .put-signal .ensures .has))
-
-put-unit-requires-2 : tie.Need-put-unit-requires-2
-put-unit-requires-2 c κs = (c .before .before .before .before .put-negated .ensures .step .good, omega (arith, c .before .before .before .before .before .before .before .before .before .before .before .before .before .before .before .pre .1, c .before .before .before .before .before .before .before .before .before .before .put-signal .ensures .step .few, c .before .before .before .before .put-negated .ensures .step .few), formed-proposition (c .before .before .before .before .put-negated .ensures .has))
+returns-4 c =
+    let d = c .before .before .before .before .before .before in
+    rw (d .before .before .if4 .taken) (united (signalled (d .put-signal .ensures)) (c .before .before .put-unit .ensures))
 
 same-length-4 : tie.Need-same-length-4
-same-length-4 c = steps (steps (c .before .before .before .before .before .before .before .before .before .before .before .before .before .put-signal .ensures .step) (c .before .before .before .before .before .before .before .put-negated .ensures .step)) (c .before .before .put-unit2 .ensures .step) .size
+same-length-4 c = search needs
 
 returns-5 : tie.Need-returns-5
 unfolding undrawnSymbol symbolOf
-returns-5 c = rw (c .before .before .before .before .if5 .taken) (record { step = wider 12 (omega arith) (steps (steps (c .before .before .before .before .before .before .before .before .before .before .before .before .before .put-signal .ensures .step) (c .before .before .before .before .before .before .before .put-negated .ensures .step)) (c .before .before .put-unit2 .ensures .step)); has = over-proposition unit (still negated (c .before .before .before .before .before .before .before .before .before .before .before .before .before .put-signal .ensures .has) (c .before .before .before .before .before .before .before .put-negated .ensures)) (c .before .before .put-unit2 .ensures) .has })
-
-put-stretch-requires-2 : tie.Need-put-stretch-requires-2
-put-stretch-requires-2 c κs = (c .before .before .before .before .put-negated .ensures .step .good, omega (arith, c .before .before .before .before .before .before .before .before .before .before .before .before .before .before .before .pre .1, c .before .before .before .before .before .before .before .before .before .before .put-signal .ensures .step .few, c .before .before .before .before .put-negated .ensures .step .few), formed-proposition (c .before .before .before .before .put-negated .ensures .has))
+returns-5 c =
+    let d = c .before .before .before .before .before .before in
+    rw (d .before .before .if5 .taken) (stretched (signalled (d .put-signal2 .ensures)) (c .before .before .put-stretch .ensures))
 
 same-length-5 : tie.Need-same-length-5
-same-length-5 c = steps (steps (c .before .before .before .before .before .before .before .before .before .before .before .before .before .before .put-signal .ensures .step) (c .before .before .before .before .before .before .before .before .put-negated .ensures .step)) (c .before .before .before .put-stretch2 .ensures .step) .size
+same-length-5 c = search needs
 
 returns-6 : tie.Need-returns-6
 unfolding undrawnSymbol symbolOf
-returns-6 c = rw (c .if6 .taken) (record { step = wider 12 (omega arith) (steps (steps (c .before .before .before .before .before .before .before .before .before .before .before .before .before .before .put-signal .ensures .step) (c .before .before .before .before .before .before .before .before .put-negated .ensures .step)) (c .before .before .before .put-stretch2 .ensures .step)); has = over-proposition stretch (still negated (c .before .before .before .before .before .before .before .before .before .before .before .before .before .before .put-signal .ensures .has) (c .before .before .before .before .before .before .before .before .put-negated .ensures)) (c .before .before .before .put-stretch2 .ensures) .has })
-
-put-stretch-requires-3 : tie.Need-put-stretch-requires-3
-put-stretch-requires-3 c κs = (c .before .before .before .before .put-stretch2 .ensures .step .good, omega (arith, c .before .before .before .before .before .before .before .before .before .before .before .before .before .before .before .before .before .before .before .before .pre .1, c .before .before .before .before .before .before .before .before .before .before .before .before .before .before .before .put-signal .ensures .step .few, c .before .before .before .before .before .before .before .before .before .put-negated .ensures .step .few, c .before .before .before .before .put-stretch2 .ensures .step .few), formed-proposition (proposition-kept (steps (c .before .before .before .before .before .before .before .before .before .put-negated .ensures .step) (c .before .before .before .before .put-stretch2 .ensures .step)) (c .before .before .before .before .before .before .before .before .before .before .before .before .before .before .before .put-signal .ensures .has)))
-
-put-or-requires : tie.Need-put-or-requires
-put-or-requires c κs = (c .before .before .before .put-stretch3 .ensures .step .good, omega (arith, c .before .before .before .before .before .before .before .before .before .before .before .before .before .before .before .before .before .before .before .before .before .before .before .before .pre .1, c .before .before .before .before .before .before .before .before .before .before .before .before .before .before .before .before .before .before .before .put-signal .ensures .step .few, c .before .before .before .before .before .before .before .before .before .before .before .before .before .put-negated .ensures .step .few, c .before .before .before .before .before .before .before .before .put-stretch2 .ensures .step .few, c .before .before .before .put-stretch3 .ensures .step .few), formed (has-kept (c .before .before .before .put-stretch3 .ensures .step) (c .before .before .before .before .before .before .before .before .put-stretch2 .ensures .has)), formed (c .before .before .before .put-stretch3 .ensures .has))
+returns-6 c =
+    let d = c .before .before .before .before in
+    rw (d .if6 .taken) (stretched (d .before .before .before .put-low .ensures) (c .before .before .put-stretch2 .ensures))
 
 same-length-6 : tie.Need-same-length-6
-same-length-6 c = steps (steps (steps (steps (c .before .before .before .before .before .before .before .before .before .before .before .before .before .before .before .before .before .before .before .before .before .before .put-signal .ensures .step) (c .before .before .before .before .before .before .before .before .before .before .before .before .before .before .before .before .put-negated .ensures .step)) (c .before .before .before .before .before .before .before .before .before .before .before .put-stretch2 .ensures .step)) (c .before .before .before .before .before .before .put-stretch3 .ensures .step)) (c .before .before .put-or .ensures .step) .size
+same-length-6 c = search needs
 
 returns-7 : tie.Need-returns-7
-unfolding undrawnSymbol symbolOf
+unfolding undrawnSymbol
 returns-7 c =
-    let seven : c .before .before .before .before .before .before .before .before .before .before .before .before .before .before .before .before .before .before .before .before .before .before .before .before .before .before .before .args .q ≡ 7 = omega (arith, c .before .before .before .before .before .before .before .before .before .before .before .before .before .before .before .before .before .before .before .before .before .before .before .before .before .before .before .pre .2, c .before .before .before .before .before .before .before .before .before .before .before .before .before .before .before .before .before .before .before .before .before .before .before .before .before .if1 .left, c .before .before .before .before .before .before .before .before .before .before .before .before .before .before .before .before .before .before .before .before .before .before .before .before .if2 .left, c .before .before .before .before .before .before .before .before .before .before .before .before .before .before .before .before .before .before .before .if3 .left, c .before .before .before .before .before .before .before .before .before .before .before .before .before .before .before .before .before .before .if4 .left, c .before .before .before .before .before .before .before .before .before .before .before .before .before .if5 .left, c .before .before .before .before .before .before .before .before .if6 .left) in
-    let low = over-proposition stretch (still negated (c .before .before .before .before .before .before .before .before .before .before .before .before .before .before .before .before .before .before .before .before .before .before .put-signal .ensures .has) (c .before .before .before .before .before .before .before .before .before .before .before .before .before .before .before .before .put-negated .ensures)) (c .before .before .before .before .before .before .before .before .before .before .before .put-stretch2 .ensures) in
-    let high = over-proposition stretch (proposition-kept (steps (c .before .before .before .before .before .before .before .before .before .before .before .before .before .before .before .before .put-negated .ensures .step) (c .before .before .before .before .before .before .before .before .before .before .before .put-stretch2 .ensures .step)) (c .before .before .before .before .before .before .before .before .before .before .before .before .before .before .before .before .before .before .before .before .before .before .put-signal .ensures .has)) (c .before .before .before .before .before .before .put-stretch3 .ensures) in
-    let all = steps (steps (steps (steps (c .before .before .before .before .before .before .before .before .before .before .before .before .before .before .before .before .before .before .before .before .before .before .put-signal .ensures .step) (c .before .before .before .before .before .before .before .before .before .before .before .before .before .before .before .before .put-negated .ensures .step)) (c .before .before .before .before .before .before .before .before .before .before .before .put-stretch2 .ensures .step)) (c .before .before .before .before .before .before .put-stretch3 .ensures .step)) (c .before .before .put-or .ensures .step) in
-    rw seven (record { step = wider 12 (omega arith) all; has = over₂ disjunction (has-kept (c .before .before .before .before .before .before .put-stretch3 .ensures .step) (low .has)) (high .has) (c .before .before .put-or .ensures) .has })
+    let d6 = c .before .before .before .before in
+    let low = d6 .before .before .before in
+    let d5 = low .before .before in
+    let d4 = d5 .before in
+    let d3 = d4 .before in
+    let d2 = d3 .before in
+    rw (low-is _ (d4 .if4 .left) (d3 .if3 .left) (d6 .if6 .left) (d5 .if5 .left) (d2 .before .if1 .left) (d2 .if2 .left))
+    (united (low .put-low .ensures) (c .before .before .put-unit2 .ensures))
 
 pub put-symbol-spec : {M : Type 1} → statement M
 put-symbol-spec =
     tie.close
     (tie.spec
     returns
-    put-slen-requires
-    same-length
-    returns-2
-    put-signal-requires
-    put-unit-requires
-    same-length-2
-    returns-3
-    put-stretch-requires
-    same-length-3
-    returns-4
-    put-negated-requires
-    put-unit-requires-2
-    same-length-4
-    returns-5
-    put-stretch-requires-2
-    same-length-5
-    returns-6
-    put-stretch-requires-3
-    put-or-requires
-    same-length-6
-    returns-7)
+    free same-length returns-2
+    free same-length-2 returns-3
+    free free same-length-3 returns-4
+    free free same-length-4 returns-5
+    free free same-length-5 returns-6
+    free same-length-6 returns-7)
