@@ -1,4 +1,4 @@
--- Laws of texts, lines and answers.
+-- Laws of texts and answers.
 pub mod Texts
 pub mod Answers
-pub mod Lines
+pub mod Formulas
