@@ -89,7 +89,7 @@ module _ {s x y : List ℕ} (blank : x ≡ replicate 8192 0) where
   pub output-written : (answer : TranslateAnswer) (size : ℕ) → answer ≡ Written size → Translated s x y answer → OutputOf s (record { bytes = y; length = size })
   output-written answer size e t = written size (subst (Translated s x y) e t)
 
-  pub number-small : (answer : TranslateAnswer) (number : ℕ) → answer ≡ Refused number → Translated s x y answer → number < 100
+  pub number-small : (answer : TranslateAnswer) (number : ℕ) → answer ≡ Refused number → Translated s x y answer → number < 1000
   number-small answer number e t = omega (arith, refused-is number (subst (Translated s x y) e t), refusal-small s)
 
   pub output-size : {answer : TranslateAnswer} → Translated s x y answer → 24 ≤ length y

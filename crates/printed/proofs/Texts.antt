@@ -1,24 +1,24 @@
 -- Laws of the texts that are printed.
-use Prim.Native.Nat.{ℕ, zero, suc, _+_, _/_, _%_, _≤_, _<_}
+use Prim.Native.Nat.{ℕ, zero, suc, _+_, _*_, _/_, _%_, _≤_, _<_}
 use mathlib.Core.Bool.{Bool, true, false}
-use mathlib.Core.List.{List, [], _∷_, _++_}
+use mathlib.Core.List.{List, [], _∷_, _++_, append-assoc, append-nil}
 use mathlib.Core.Logic.{inl, inr}
 use mathlib.Core.Path.{_≡_, refl, sym, _∙_, ap, ap₂, subst}
 use native.Mathlib.Omega.{arith}
 use borrow.Author.Tests.{lt-ltb, le-ltb, ltb-true, ltb-false, eq-eqb, ne-eqb}
 use lib.Dec.{ltb}
-use lib.ListN.{length, getD, set, take, drop, replicate, length-append, length-replicate, getD-replicate, List·getD-eq-default, drop-of-length-le}
-use lib.Seq.{sets, length-sets, length-take-le, take-suc, getD-drop}
+use lib.ListN.{length, getD, set, take, drop, replicate, length-append, length-replicate, getD-replicate, List·getD-eq-default, take-append-drop, drop-of-length-le}
+use lib.Seq.{sets, length-sets, length-take-le, take-all, take-suc, getD-drop}
 use Rattle.semantics.proofs.Tests.{test}
 use Rattle.stored.specs.Tree.{pick}
 use Rattle.stored.proofs.Rules.{length-inOrder}
 use Rattle.stored.proofs.Written.{drop-after, getD-put}
-use Rattle.checker.specs.declared.check.Place.{Place}
 use Rattle.checker.specs.declared.check.Answer.{Answer}
-use Rattle.checker.specs.Small.{SmallPlace}
+use Rattle.checker.specs.declared.check.Answer.the-variants.{Refused, Excused, Broken, Holds}
+use Rattle.checker.specs.Small.{Small}
 use Rattle.checker.proofs.Copies.{copied-all}
-use Rattle.printed.specs.Text.{digitsOf, decimalOf, lineWith, refusedText, padded, Put}
-use Rattle.printed.specs.Line.{lineText}
+use Rattle.printed.specs.Text.{digitsOf, decimalOf, spaced, lineWith, ThreeDigits, refusedWord, refusedText, padded, Put}
+use Rattle.printed.specs.Line.{brokenWord, holdsWord, excusedWord, brokenText, lineText}
 use Rattle.printed.specs.Page.{tableByte, tableText, textOf}
 
 -- ---- decimal digits
@@ -52,9 +52,9 @@ decimal-some n = go (ltb n 10) refl
     go true e = let one = ap length (decimal-one n (ltb-true n 10 e)) in omega arith
     go false e = let more = decimal-length n (ltb-false n 10 e) in omega arith
 
--- a number below 100 has one or two digits
-pub decimal-few : (n : ℕ) → n < 100 → length (decimalOf n) ≤ 2
-decimal-few n h = go (ltb n 10) refl
+-- how many digits a number has at most
+decimal-two : (n : ℕ) → n < 100 → length (decimalOf n) ≤ 2
+decimal-two n h = go (ltb n 10) refl
   where
     go : (t : Bool) → ltb n 10 ≡ t → length (decimalOf n) ≤ 2
     go true e = let one = ap length (decimal-one n (ltb-true n 10 e)) in omega arith
@@ -62,6 +62,17 @@ decimal-few n h = go (ltb n 10) refl
         let more = decimal-length n (ltb-false n 10 e) in
         let less : n / 10 < 10 = omega arith in
         let one = ap length (decimal-one (n / 10) less) in
+        omega arith
+
+decimal-three : (n : ℕ) → n < 1000 → length (decimalOf n) ≤ 3
+decimal-three n h = go (ltb n 10) refl
+  where
+    go : (t : Bool) → ltb n 10 ≡ t → length (decimalOf n) ≤ 3
+    go true e = let one = ap length (decimal-one n (ltb-true n 10 e)) in omega arith
+    go false e =
+        let more = decimal-length n (ltb-false n 10 e) in
+        let less : n / 10 < 100 = omega arith in
+        let two = decimal-two (n / 10) less in
         omega arith
 
 -- ---- texts put after one another
@@ -137,20 +148,90 @@ put-padded {x} {y} {r} {text} n e p most =
     (p .bytes ∙ ap (λ (l : List ℕ). sets l 0 text) e ∙ padded-put n text (omega arith), end, omega arith)
 
 -- ---- lines
-pub line-length : (l : List ℕ) (number : ℕ) → length (lineWith l (number ∷ [])) ≡ length l + 2 + length (decimalOf number)
-unfolding lineWith
-line-length l number =
-    let numbered = length-append l (32 ∷ decimalOf number) in
-    let ended = length-append (l ++ (32 ∷ decimalOf number)) (10 ∷ []) in
+spaced-append : (a b : List ℕ) → spaced (a ++ b) ≡ spaced a ++ spaced b
+unfolding spaced
+spaced-append [] b = refl
+spaced-append (n ∷ a) b =
+    ap (λ (l : List ℕ). (32 ∷ decimalOf n) ++ l) (spaced-append a b) ∙ sym (append-assoc (32 ∷ decimalOf n) (spaced a) (spaced b))
+
+-- one number more
+spaced-more : (numbers : List ℕ) (t : ℕ) → t < length numbers → spaced (take t numbers) ++ (32 ∷ decimalOf (getD numbers t 0)) ≡ spaced (take (t + 1) numbers)
+unfolding spaced
+spaced-more numbers t h =
+    let next : suc t ≡ t + 1 = omega arith in
+    ap (λ (l : List ℕ). spaced (take t numbers) ++ l) (sym (append-nil (32 ∷ decimalOf (getD numbers t 0))))
+    ∙ sym (spaced-append (take t numbers) (getD numbers t 0 ∷ []))
+    ∙ ap spaced (sym (take-suc numbers t 0 h) ∙ ap (λ (j : ℕ). take j numbers) next)
+
+spaced-room : (numbers : List ℕ) (t : ℕ) → length (spaced (take t numbers)) ≤ length (spaced numbers)
+spaced-room numbers t =
+    let whole = ap length (sym (ap spaced (take-append-drop t numbers)) ∙ spaced-append (take t numbers) (drop t numbers)) in
+    let parts = length-append (spaced (take t numbers)) (spaced (drop t numbers)) in
     omega arith
+
+pub line-length : (word numbers : List ℕ) → length (lineWith word numbers) ≡ length word + length (spaced numbers) + 1
+unfolding lineWith
+line-length word numbers =
+    let front = length-append word (spaced numbers) in
+    let whole = length-append (word ++ spaced numbers) (10 ∷ []) in
+    omega arith
+
+-- the next number has room where the line has
+pub number-room : (word numbers : List ℕ) (t size : ℕ) → t < length numbers → length (lineWith word numbers) ≤ size
+    → length word + length (spaced (take t numbers)) + 1 + length (decimalOf (getD numbers t 0)) < size
+number-room word numbers t size h fits =
+    let whole = line-length word numbers in
+    let more = ap length (spaced-more numbers t h) in
+    let parts = length-append (spaced (take t numbers)) (32 ∷ decimalOf (getD numbers t 0)) in
+    let room = spaced-room numbers (t + 1) in
+    omega arith
+
+pub newline-room : (word numbers : List ℕ) (t size : ℕ) → length (lineWith word numbers) ≤ size → length word + length (spaced (take t numbers)) < size
+newline-room word numbers t size fits = omega (arith, line-length word numbers, spaced-room numbers t)
+
+pub put-number : {x y z : List ℕ} {at r e : ℕ} (numbers : List ℕ) (t : ℕ) → t < length numbers → Put x y at r (spaced (take t numbers))
+    → Put (set y r 32) z (r + 1) e (decimalOf (getD numbers t 0)) → Put x z at e (spaced (take (t + 1) numbers))
+put-number {x} {y} {z} {at} {r} {e} numbers t h p q =
+    subst (λ (l : List ℕ). Put x z at e l) (spaced-more numbers t h)
+    (put-then p (put-then {a = 32 ∷ []} (record { bytes = refl; end = refl }) q))
+
+pub put-line : {x y z : List ℕ} {w r t : ℕ} (word numbers : List ℕ) → Put x y 0 w word → Put y z w r (spaced (take t numbers)) → length numbers ≤ t
+    → Put x (set z r 10) 0 (r + 1) (lineWith word numbers)
+unfolding lineWith
+put-line {x} {y} {z} {w} {r} {t} word numbers p q all =
+    let whole = subst (λ (l : List ℕ). Put y z w r (spaced l)) (take-all t numbers all) q in
+    put-then (put-then p whole) (record { bytes = refl; end = refl })
+
+-- a number below 1,000 takes four bytes at most
+spaced-cons : (n : ℕ) (numbers : List ℕ) → n < 1000 → length (spaced (n ∷ numbers)) ≤ 4 + length (spaced numbers)
+unfolding spaced
+spaced-cons n numbers h =
+    let few = decimal-three n h in
+    let parts = length-append (32 ∷ decimalOf n) (spaced numbers) in
+    omega arith
+
+spaced-few : (numbers : List ℕ) → ThreeDigits numbers → length (spaced numbers) ≤ 4 * length numbers
+unfolding spaced
+spaced-few [] h = omega arith
+spaced-few (n ∷ numbers) h = omega (arith, spaced-cons n numbers (h .0), spaced-few numbers (h .1))
+
+pub line-most : (word numbers : List ℕ) → ThreeDigits numbers → length (lineWith word numbers) ≤ length word + 4 * length numbers + 1
+line-most word numbers h = omega (arith, line-length word numbers, spaced-few numbers h)
+
+pub line-fits : (word numbers : List ℕ) (size : ℕ) → (length word + 4 * length numbers < size) × ThreeDigits numbers → length (lineWith word numbers) ≤ size
+line-fits word numbers size h = omega (arith, line-most word numbers (h .1), h .0)
+
+pub line-short : (answer : Answer) → Small answer → length (lineText answer) ≤ 24
+unfolding lineText refusedText brokenText
+line-short (Refused number) h = omega (arith, line-most refusedWord (number ∷ []) (omega (arith, h), omega arith))
+line-short (Excused clause) h = omega (arith, line-most excusedWord (clause ∷ []) (omega (arith, h), omega arith))
+line-short (Broken p) h =
+    omega (arith, line-most brokenWord (p .clause ∷ p .i ∷ p .j ∷ p .k ∷ []) (omega (arith, h .0), (omega (arith, h .1), (omega (arith, h .2), (omega (arith, h .3), omega arith)))))
+line-short Holds h = omega (arith, line-most holdsWord [] (omega arith))
 
 -- the same by the answer given
 pub put-told : {x y : List ℕ} {r : ℕ} {answer given : Answer} → answer ≡ given → Put x y 0 r (lineText given) → Put x y 0 r (lineText answer)
 put-told {x} {y} {r} e p = subst (λ (a : Answer). Put x y 0 r (lineText a)) (sym e) p
-
--- the digits of a place's numbers
-pub place-few : (p : Place) → SmallPlace p → (length (decimalOf (p .clause)) ≤ 2) × (length (decimalOf (p .i)) ≤ 2) × (length (decimalOf (p .j)) ≤ 2) × (length (decimalOf (p .k)) ≤ 2)
-place-few p h = (decimal-few _ (h .0), decimal-few _ (h .1), decimal-few _ (h .2), decimal-few _ (h .3))
 
 -- ---- the page of a table
 pub table-text : (rows : List ℕ) (number : ℕ) → number ≡ 0 → textOf number rows ≡ tableText rows

@@ -1,5 +1,5 @@
 -- Texts: numbers in decimal, lines of a word and numbers, and bytes that hold a text.
-use Prim.Native.Nat.{ℕ, zero, suc, _+_, _/_, _%_}
+use Prim.Native.Nat.{ℕ, zero, suc, _+_, _/_, _%_, _<_}
 use mathlib.Core.List.{List, [], _∷_, _++_}
 use mathlib.Core.Path.{_≡_}
 use lib.Dec.{ltb}
@@ -17,10 +17,19 @@ digitsOf (suc most) number = pick (ltb number 10) ((48 + number) ∷ []) (digits
 unfoldable pub decimalOf : ℕ → List ℕ
 decimalOf number = digitsOf (suc number) number
 
--- the text so far, each number after a space, and a newline
+-- each number after a space
+unfoldable pub spaced : List ℕ → List ℕ
+spaced [] = []
+spaced (number ∷ more) = (32 ∷ decimalOf number) ++ spaced more
+
+-- the line of a word and numbers
 unfoldable pub lineWith : List ℕ → List ℕ → List ℕ
-lineWith l [] = l ++ (10 ∷ [])
-lineWith l (number ∷ more) = lineWith (l ++ (32 ∷ decimalOf number)) more
+lineWith word numbers = word ++ spaced numbers ++ (10 ∷ [])
+
+-- numbers of three digits at most
+abbrev pub ThreeDigits : List ℕ → Type 0
+ThreeDigits [] = 0 < 1000
+ThreeDigits (number ∷ more) = (number < 1000) × ThreeDigits more
 
 abbrev pub refusedWord : List ℕ
 refusedWord = 82 ∷ 69 ∷ 70 ∷ 85 ∷ 83 ∷ 69 ∷ 68 ∷ []

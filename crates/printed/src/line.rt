@@ -1,20 +1,15 @@
 // What the check program writes: a line with the verdict or with the number of the refusal.
 ghost use mathlib.Core.Path.{_≡_};
-ghost use mathlib.Core.List.{[]};
 ghost use Prim.Native.Nat.{_≤_};
 ghost use lib.ListN.{length, replicate};
-ghost use Rattle.checker.specs.Small.{Small, SmallPlace};
-ghost use Rattle.printed.specs.Text.{lineWith, Put};
-ghost use Rattle.printed.specs.Line.{holdsWord, brokenText, lineText, lineOf, lineFor, answerFor};
+ghost use Rattle.checker.specs.Small.{Small};
+ghost use Rattle.printed.specs.Text.{Put};
+ghost use Rattle.printed.specs.Line.{lineText, lineOf, lineFor, answerFor};
 use crate::input::lent_words;
 use crate::input::split;
 use crate::text::put_line;
-use crate::text::put_newline;
-use crate::text::put_number;
 use crate::text::put_refused;
-use crate::text::put_word;
 use checker::check::Answer;
-use checker::check::Place;
 use checker::check::check;
 
 // A text and its length.
@@ -23,36 +18,22 @@ pub struct Line {
     pub length: usize,
 }
 
-// Puts the line of a broken place: its clause and its three cycles.
-fn put_broken(out: &mut [u8], place: Place) -> usize
-    requires { ⌜ (24 ≤ length (now out)) × SmallPlace place ⌝ }
-    ensures { λ r. ⌜ (Put (now (out .entry)) (now (out .exit)) 0 r (brokenText place)) × (r ≤ 24) ⌝ }
-{
-    let named = put_word(out, b"BROKEN");
-    let to_clause = put_number(out, named, place.clause);
-    let to_i = put_number(out, to_clause, place.i);
-    let to_j = put_number(out, to_i, place.j);
-    let to_k = put_number(out, to_j, place.k);
-    put_newline(out, to_k)
-}
-
-fn put_holds(out: &mut [u8]) -> usize
-    requires { ⌜ 24 ≤ length (now out) ⌝ }
-    ensures { λ r. ⌜ Put (now (out .entry)) (now (out .exit)) 0 r (lineWith holdsWord []) ⌝ }
-{
-    let named = put_word(out, b"HOLDS");
-    put_newline(out, named)
-}
-
+// Puts the line of an answer and gives its length.
 fn put_answer(out: &mut [u8], answer: Answer) -> usize
     requires { ⌜ (24 ≤ length (now out)) × Small answer ⌝ }
     ensures { λ r. ⌜ (Put (now (out .entry)) (now (out .exit)) 0 r (lineText answer)) × (r ≤ 24) ⌝ }
 {
     match answer {
         Answer::Refused(number) => put_refused(out, number),
-        Answer::Excused(clause) => put_line(out, b"EXCUSED", clause),
-        Answer::Broken(place) => put_broken(out, place),
-        Answer::Holds => put_holds(out),
+        Answer::Excused(clause) => {
+            let numbers = [clause];
+            put_line(out, b"EXCUSED", &numbers)
+        }
+        Answer::Broken(place) => {
+            let numbers = [place.clause, place.i, place.j, place.k];
+            put_line(out, b"BROKEN", &numbers)
+        }
+        Answer::Holds => put_line(out, b"HOLDS", &[]),
     }
 }
 

@@ -1,11 +1,10 @@
 // Texts in lent bytes: words, numbers and lines.
-ghost use mathlib.Core.List.{[], _∷_};
-ghost use Prim.Native.Nat.{_+_, _≤_, _<_};
+ghost use Prim.Native.Nat.{_+_, _*_, _≤_, _<_};
 ghost use lib.ListN.{length};
-ghost use Rattle.printed.specs.Text.{decimalOf, lineWith, refusedText, Put};
+ghost use Rattle.printed.specs.Text.{decimalOf, lineWith, ThreeDigits, refusedText, Put};
 
 // Puts a word at the start and gives its length.
-pub fn put_word(out: &mut [u8], word: &[u8]) -> usize
+fn put_word(out: &mut [u8], word: &[u8]) -> usize
     requires { ⌜ length (now word) ≤ length (now out) ⌝ }
     ensures { λ r. ⌜ Put (now (out .entry)) (now (out .exit)) 0 r (now (word .entry)) ⌝ }
 {
@@ -31,37 +30,27 @@ fn put_decimal(out: &mut [u8], at: usize, number: usize) -> usize
     last + 1
 }
 
-// Puts a space and a number.
-pub fn put_number(out: &mut [u8], at: usize, number: usize) -> usize
-    requires { ⌜ at + 1 + length (decimalOf number) ≤ length (now out) ⌝ }
-    ensures { λ r. ⌜ Put (now (out .entry)) (now (out .exit)) at r (32 ∷ decimalOf number) ⌝ }
+// Puts the line of a word and numbers and gives its length.
+pub fn put_line(out: &mut [u8], word: &[u8], numbers: &[usize]) -> usize
+    requires { ⌜ (length (now word) + 4 * length (now numbers) < length (now out)) × ThreeDigits (now numbers) ⌝ }
+    ensures { λ r. ⌜ Put (now (out .entry)) (now (out .exit)) 0 r (lineWith (now (word .entry)) (now (numbers .entry))) ⌝ }
 {
-    out[at] = b' ';
-    put_decimal(out, at + 1, number)
-}
-
-pub fn put_newline(out: &mut [u8], at: usize) -> usize
-    requires { ⌜ at < length (now out) ⌝ }
-    ensures { λ r. ⌜ Put (now (out .entry)) (now (out .exit)) at r (10 ∷ []) ⌝ }
-{
+    let mut at = put_word(out, word);
+    let mut t = 0;
+    while t < numbers.len() {
+        out[at] = b' ';
+        at = put_decimal(out, at + 1, numbers[t]);
+        t += 1;
+    }
     out[at] = b'\n';
     at + 1
 }
 
-// Puts the line of a word and a number.
-pub fn put_line(out: &mut [u8], word: &[u8], number: usize) -> usize
-    requires { ⌜ length (now word) + 2 + length (decimalOf number) ≤ length (now out) ⌝ }
-    ensures { λ r. ⌜ Put (now (out .entry)) (now (out .exit)) 0 r (lineWith (now (word .entry)) (number ∷ [])) ⌝ }
-{
-    let named = put_word(out, word);
-    let numbered = put_number(out, named, number);
-    put_newline(out, numbered)
-}
-
 // Puts the line of a refusal.
 pub fn put_refused(out: &mut [u8], number: usize) -> usize
-    requires { ⌜ (24 ≤ length (now out)) × (number < 100) ⌝ }
+    requires { ⌜ (24 ≤ length (now out)) × (number < 1000) ⌝ }
     ensures { λ r. ⌜ (Put (now (out .entry)) (now (out .exit)) 0 r (refusedText number)) × (r ≤ 24) ⌝ }
 {
-    put_line(out, b"REFUSED", number)
+    let numbers = [number];
+    put_line(out, b"REFUSED", &numbers)
 }
