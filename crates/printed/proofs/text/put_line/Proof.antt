@@ -47,7 +47,7 @@ put-decimal-requires c κs =
     let at = c .before .before .before .loop in
     let start = c .before .before .before .before .before .before .before .before .before .before .before in
     let word = c .before .before .before .before .before .before .put-word .ensures in
-    omega (arith, at .inv .1, at .inv .2 .end, word .end, put-size word, number-room (start .args .word .now) (start .args .numbers .now) (at .t) (length (start .args .out .now)) (omega arith) (line-fits _ _ _ (start .pre)), length-set (at .out) (at .at) 32)
+    simp length-set (omega (arith, at .inv .1, at .inv .2 .end, word .end, put-size word, number-room (start .args .word .now) (start .args .numbers .now) (at .t) (length (start .args .out .now)) (omega arith) (line-fits _ _ _ (start .pre))))
 
 add-t : tie.Need-add-t Inv-loop μ-loop
 add-t c = search needs
