@@ -1,7 +1,8 @@
 /* The proved check, table and translator of sheets, as libexports.a has them.
 
    Sheets and traces are bytes in the stored layout. Every pointer is of as many elements as the length after it says, and
-   none is null; what is lent to be written overlaps nothing else that is passed. No pointer is kept.
+   none is null: for no bytes pass a pointer to anything and 0, not (NULL, 0). What is lent to be written overlaps nothing
+   else that is passed. No pointer is kept.
 
    An answer is a tag and 256 times a value. Tag 0: refused, and the value is the number of the refusal, 1 to 17. Whatever
    was lent is then as it was. */

@@ -160,7 +160,7 @@ fn marks_in_a_row(broken: bool) -> Sheet {
     let always = s.truth();
     let any = s.stretch(always);
     let marks = [0, 1, 2].map(|u| s.mark(u));
-    let last = s.slen(if broken { Compare::AtLeast } else { Compare::Below }, 0);
+    let last = s.slen(if broken { Compare::AtLeast } else { Compare::Less }, 0);
     let mut row = any;
     let mut k = 0;
     while s.nodes.len() < 61 {

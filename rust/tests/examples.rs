@@ -31,17 +31,15 @@ fn run(what: &str, cases: Vec<Case>) {
         }
         if source.names == 0 {
             let words = reference::stored::trace(&case.trace, source).unwrap();
-            translated.agrees(&words);
-            tally.evaluations += 1;
+            tally.evaluated(translated.agrees(&words));
         }
         for _ in 0..20 {
             let cycles = random.between(1, [5, 5, 4, 3][source.names]);
             let trace = generate::trace(&mut random, source.signals, cycles);
-            translated.agrees(&trace.cycles);
-            tally.evaluations += 1;
+            tally.evaluated(translated.agrees(&trace.cycles));
         }
     }
-    tally.print(what);
+    tally.demand(what, [0, 0, 0, 0, cases.len(), cases.len()]);
 }
 
 #[test]

@@ -46,12 +46,11 @@ fn one(random: &mut Random, tally: &mut Tally, sheet: &Sheet, cycles: usize) {
     let translated = compare::translate(&bytes, 8192).unwrap();
     tally.formulas += 1;
     if cycles * sheet.names as usize <= COLUMNS {
-        translated.agrees(&trace.cycles);
-        tally.evaluations += 1;
+        tally.evaluated(translated.agrees(&trace.cycles));
     }
 }
 
-fn short(seed: u64, draw: Draw, what: &str) {
+fn short(seed: u64, draw: Draw, what: &str, least: [usize; 6]) {
     let mut random = Random::new(seed);
     let mut tally = Tally::default();
     for _ in 0..4000 {
@@ -66,17 +65,17 @@ fn short(seed: u64, draw: Draw, what: &str) {
         let cycles = random.between(1, 6);
         one(&mut random, &mut tally, &sheet, cycles);
     }
-    tally.print(what);
+    tally.demand(what, least);
 }
 
 #[test]
 fn plain_and_short() {
-    short(11, generate::plain, "plain and short");
+    short(11, generate::plain, "plain and short", [800, 400, 800, 0, 1000, 700]);
 }
 
 #[test]
 fn drawn_and_short() {
-    short(12, generate::drawn, "drawn and short");
+    short(12, generate::drawn, "drawn and short", [700, 500, 800, 0, 1000, 700]);
 }
 
 #[test]
@@ -91,11 +90,20 @@ fn marked_and_short() {
         let cycles = random.between(1, [0, 6, 5, 4][names]);
         one(&mut random, &mut tally, &sheet, cycles);
     }
-    tally.print("marked and short");
+    tally.demand("marked and short", [2500, 0, 1500, 0, 2500, 1500]);
 }
 
 /// Long traces: many nodes without names, few with them.
-fn long(seed: u64, names: usize, sheets: usize, nodes: usize, cycles: (usize, usize), what: &str) {
+struct Long {
+    seed: u64,
+    names: usize,
+    sheets: usize,
+    nodes: usize,
+    cycles: (usize, usize),
+}
+
+fn long(what: &str, shape: Long, least: [usize; 6]) {
+    let Long { seed, names, sheets, nodes, cycles } = shape;
     let mut random = Random::new(seed);
     let mut tally = Tally::default();
     for case in 0..sheets {
@@ -111,27 +119,31 @@ fn long(seed: u64, names: usize, sheets: usize, nodes: usize, cycles: (usize, us
         let cycles = if case % 4 < 2 { cycles.1 } else { random.between(cycles.0, cycles.1) };
         one(&mut random, &mut tally, &sheet, cycles);
     }
-    tally.print(what);
+    tally.demand(what, least);
 }
 
 #[test]
 fn long_without_names() {
-    long(21, 0, 400, 40, (33, 64), "long, no names");
+    let shape = Long { seed: 21, names: 0, sheets: 400, nodes: 40, cycles: (33, 64) };
+    long("long, no names", shape, [60, 30, 100, 0, 90, 100]);
 }
 
 #[test]
 fn long_with_one_name() {
-    long(22, 1, 120, 12, (33, 64), "long, one name");
+    let shape = Long { seed: 22, names: 1, sheets: 120, nodes: 12, cycles: (33, 64) };
+    long("long, one name", shape, [20, 10, 30, 0, 0, 0]);
 }
 
 #[test]
 fn long_with_two_names() {
-    long(23, 2, 40, 10, (16, 24), "long, two names");
+    let shape = Long { seed: 23, names: 2, sheets: 40, nodes: 10, cycles: (16, 24) };
+    long("long, two names", shape, [10, 0, 8, 0, 0, 0]);
 }
 
 #[test]
 fn long_with_three_names() {
-    long(24, 3, 24, 10, (8, 12), "long, three names");
+    let shape = Long { seed: 24, names: 3, sheets: 24, nodes: 10, cycles: (8, 12) };
+    long("long, three names", shape, [8, 0, 2, 0, 0, 0]);
 }
 
 /// Sheets at the limits of kind 1, on short traces.
@@ -151,7 +163,7 @@ fn full() {
         let cycles = random.between(1, 3);
         one(&mut random, &mut tally, &sheet, cycles);
     }
-    tally.print("full");
+    tally.demand("full", [3, 90, 50, 0, 90, 50]);
 }
 
 /// The sheets that need most nodes: every node a drawing, every clause with three parts of three
@@ -182,7 +194,7 @@ fn most_nodes() {
             }
         }
     }
-    tally.print("most nodes");
+    tally.demand("most nodes", [50, 8, 8, 0, 60, 8]);
 }
 
 /// Each sheet on every trace of up to three cycles.
@@ -206,12 +218,11 @@ fn every_short_trace() {
                 let trace: Vec<u16> = (0..cycles)
                     .map(|t| (word >> (t * shape.signals)) as u16 & ((1 << shape.signals) - 1))
                     .collect();
-                translated.agrees(&trace);
-                tally.evaluations += 1;
+                tally.evaluated(translated.agrees(&trace));
             }
         }
     }
-    tally.print("every short trace");
+    tally.demand("every short trace", [0, 0, 0, 0, 4000, 2000]);
 }
 
 /// The formula over all columns of four and five cycles.
@@ -233,10 +244,9 @@ fn every_column() {
         tally.formulas += 1;
         let cycles = random.between(4, [0, 9, 6, 5][names]);
         let trace = generate::trace(&mut random, shape.signals, cycles);
-        translated.agrees(&trace.cycles);
-        tally.evaluations += 1;
+        tally.evaluated(translated.agrees(&trace.cycles));
     }
-    tally.print("every column");
+    tally.demand("every column", [0, 0, 0, 0, 70, 40]);
 }
 
 /// Lists of cycles that no stored trace holds: the formula and the requirement still agree.
@@ -257,10 +267,9 @@ fn longer_than_stored() {
         tally.formulas += 1;
         let cycles = random.between(65, 100);
         let trace = generate::trace(&mut random, shape.signals, cycles);
-        translated.agrees(&trace.cycles);
-        tally.evaluations += 1;
+        tally.evaluated(translated.agrees(&trace.cycles));
     }
-    tally.print("longer than stored");
+    tally.demand("longer than stored", [0, 0, 0, 0, 15, 10]);
 }
 
 /// Good sheets and traces with one or two fields changed, and odd nodes, cycles and buffers.
@@ -303,9 +312,9 @@ fn damaged_fields() {
             Err(_) => (),
         }
     }
-    tally.print("damaged");
+    tally.demand("damaged", [200, 40, 120, 20_000, 0, 0]);
     compare::report(format!("damaged: refusals 1–17 came {:?} times", &numbers[1..]));
-    assert!(numbers[1..].iter().all(|&count| count > 0), "a number never came");
+    assert!(numbers[1..].iter().all(|&count| count >= 60), "a number came too seldom");
 }
 
 /// Every byte of a few sheets and traces set to every value.
@@ -343,7 +352,7 @@ fn every_byte() {
             tally.tables += 1;
         }
     }
-    tally.print("every byte");
+    tally.demand("every byte", [250, 1, 300, 9000, 0, 0]);
 }
 
 /// Runs again what a failure printed: FASUNQIR_SHEET and FASUNQIR_TRACE in hexadecimal.

@@ -66,4 +66,5 @@ fn random_sheets() {
         }
     }
     println!("holds {}, excused {}, broken {}", counts[0], counts[1], counts[2]);
+    assert!(counts.iter().all(|&count| count >= 150), "a verdict came too seldom");
 }

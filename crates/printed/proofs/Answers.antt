@@ -12,7 +12,7 @@ use Rattle.stored.specs.Trace.{cycleCount, cyclesOf, traceRefusal}
 use Rattle.checker.specs.Table.{orElse, wordsRefusal, nodeRefusal, tableRefusal, tableAnswer, answerFor, tableOf, placementOf}
 use Rattle.printed.specs.Input.{splitAt, sheetOf, traceOf}
 use Rattle.checker.specs.Check.{checkRefusal, checkAnswer}
-use Rattle.printed.specs.Text.{answerTo}
+use Rattle.printed.specs.Page.{answerTo}
 use Rattle.printed.specs.Line as line
 
 -- parts from the start and up to the end

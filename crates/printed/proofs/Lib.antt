@@ -1,5 +1,5 @@
--- Laws of texts, lines and answers.
+-- Laws of texts and answers.
 pub mod Copies
 pub mod Texts
 pub mod Answers
-pub mod Lines
+pub mod Formulas

@@ -2,3 +2,5 @@
 pub mod Input
 pub mod Text
 pub mod Line
+pub mod Page
+pub mod Formula

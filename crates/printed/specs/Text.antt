@@ -1,49 +1,48 @@
--- The text of an answer of the table operation: 64 lines of 16 hexadecimal digits, row 0 first, or "REFUSED n" and a newline.
-use Prim.Native.Nat.{ℕ, _+_, _-_, _*_, _/_, _%_, _^_}
-use mathlib.Core.Bool.{cond}
+-- Texts: numbers in decimal, lines of a word and numbers, and bytes that hold a text.
+use Prim.Native.Nat.{ℕ, zero, suc, _+_, _/_, _%_, _<_}
 use mathlib.Core.List.{List, [], _∷_, _++_}
-use lib.Dec.{ltb, eqb}
-use lib.ListN.{length, getD, drop, replicate}
-use Rattle.stored.specs.Bytes.{word, inOrder}
+use mathlib.Core.Path.{_≡_}
+use lib.Dec.{ltb}
+use lib.ListN.{length, getD}
+use lib.Seq.{sets}
+use Rattle.stored.specs.Bytes.{inOrder}
 use Rattle.stored.specs.Tree.{pick}
-use Rattle.checker.specs.declared.table.TableAnswer.{TableAnswer}
-use Rattle.checker.specs.Table.{tableAnswer}
-use Rattle.printed.specs.declared.page.Page.{Page}
-use Rattle.printed.specs.Input.{sheetOf, traceOf}
 
--- a number below 100 in decimal
+-- the last digits of a number, at most so many, the highest first
+unfoldable pub digitsOf : ℕ → ℕ → List ℕ
+digitsOf zero number = []
+digitsOf (suc most) number = pick (ltb number 10) ((48 + number) ∷ []) (digitsOf most (number / 10) ++ ((48 + number % 10) ∷ []))
+
+-- a number in decimal
 unfoldable pub decimalOf : ℕ → List ℕ
-decimalOf number = pick (ltb number 10) ((48 + number % 10) ∷ []) ((48 + number / 10) ∷ (48 + number % 10) ∷ [])
+decimalOf number = digitsOf (suc number) number
 
--- "REFUSED ", the number and a newline
+-- each number after a space
+unfoldable pub spaced : List ℕ → List ℕ
+spaced [] = []
+spaced (number ∷ more) = (32 ∷ decimalOf number) ++ spaced more
+
+-- the line of a word and numbers
+unfoldable pub lineWith : List ℕ → List ℕ → List ℕ
+lineWith word numbers = word ++ spaced numbers ++ (10 ∷ [])
+
+-- numbers of three digits at most
+abbrev pub ThreeDigits : List ℕ → Type 0
+ThreeDigits [] = 0 < 1000
+ThreeDigits (number ∷ more) = (number < 1000) × ThreeDigits more
+
+abbrev pub refusedWord : List ℕ
+refusedWord = 82 ∷ 69 ∷ 70 ∷ 85 ∷ 83 ∷ 69 ∷ 68 ∷ []
+
+-- "REFUSED number"
 unfoldable pub refusedText : ℕ → List ℕ
-refusedText number = 82 ∷ 69 ∷ 70 ∷ 85 ∷ 83 ∷ 69 ∷ 68 ∷ 32 ∷ (decimalOf number ++ (10 ∷ []))
+refusedText number = lineWith refusedWord (number ∷ [])
 
--- 0 to 9, a to f
-unfoldable pub glyphOf : ℕ → ℕ
-glyphOf d = cond (ltb d 10) (48 + d) (87 + d)
+-- an array of n bytes with a text at its start, zero past its end
+unfoldable pub padded : ℕ → List ℕ → List ℕ
+padded n l = inOrder n (λ k. getD l k 0)
 
--- byte j of a row's line of 17 bytes: its digits, the highest first, and a newline
-unfoldable pub rowByte : ℕ → ℕ → ℕ
-rowByte row j = cond (eqb j 16) 10 (glyphOf (row / 2 ^ (4 * (15 - j)) % 16))
-
-unfoldable pub tableByte : List ℕ → ℕ → ℕ
-tableByte rows k = rowByte (getD rows (k / 17) 0) (k % 17)
-
-unfoldable pub tableText : List ℕ → List ℕ
-tableText rows = inOrder 1088 (tableByte rows)
-
-unfoldable pub textOf : ℕ → List ℕ → List ℕ
-textOf number rows = pick (eqb number 0) (tableText rows) (refusedText number)
-
--- a text in an array of 1,088 bytes, zero past its end
-unfoldable pub pageOf : List ℕ → Page
-pageOf l = record { bytes = inOrder 1088 (λ k. getD l k 0); length = length l }
-
--- The program's input is the node in two bytes, a byte for each of the three cycles, and the sheet with the trace.
-unfoldable pub answerTo : List ℕ → TableAnswer
-answerTo l =
-    tableAnswer (sheetOf (drop 5 l)) (traceOf (drop 5 l)) (word l 0) (getD l 2 0) (getD l 3 0) (getD l 4 0) (replicate 4096 0)
-
-unfoldable pub printedFor : List ℕ → List ℕ
-printedFor l = textOf (answerTo l .refused) (answerTo l .rows)
+-- bytes x became y: from `at` on they are the text, up to r; the others stay
+pub record Put (x y : List ℕ) (at r : ℕ) (text : List ℕ) : Type 0 where
+  pub bytes : y ≡ sets x at text
+  pub end : r ≡ at + length text

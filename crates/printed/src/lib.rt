@@ -1,5 +1,6 @@
 // What the programs print, from the bytes that they read.
-pub mod input;
+pub mod formula;
+mod input;
 pub mod line;
 pub mod page;
-pub mod text;
+mod text;

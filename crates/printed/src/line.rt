@@ -1,16 +1,15 @@
 // What the check program writes: a line with the verdict or with the number of the refusal.
 ghost use mathlib.Core.Path.{_≡_};
-ghost use mathlib.Core.List.{[], _∷_, _++_};
-ghost use Prim.Native.Nat.{_+_, _<_, _≤_};
-ghost use lib.ListN.{length};
-ghost use Rattle.printed.specs.Text.{decimalOf};
-ghost use Rattle.printed.specs.Line.{brokenWord, excusedWord, refusedWord, holdsWord, brokenText, lineText, lineOf, lineFor, answerFor, Grown};
-ghost use Rattle.checker.specs.Small.{Small, SmallPlace};
+ghost use Prim.Native.Nat.{_≤_};
+ghost use lib.ListN.{length, replicate};
+ghost use Rattle.checker.specs.Small.{Small};
+ghost use Rattle.printed.specs.Text.{Put};
+ghost use Rattle.printed.specs.Line.{lineText, lineOf, lineFor, answerFor};
 use crate::input::lent_words;
 use crate::input::split;
-use crate::text::decimal_byte;
+use crate::text::put_line;
+use crate::text::put_refused;
 use checker::check::Answer;
-use checker::check::Place;
 use checker::check::check;
 
 // A text and its length.
@@ -19,211 +18,22 @@ pub struct Line {
     pub length: usize,
 }
 
-fn broken_word() -> Line
-    ensures { λ r. ⌜ r ≡ lineOf brokenWord ⌝ }
-{
-    Line {
-        bytes: [
-            66,
-            82,
-            79,
-            75,
-            69,
-            78,
-            0,
-            0,
-            0,
-            0,
-            0,
-            0,
-            0,
-            0,
-            0,
-            0,
-            0,
-            0,
-            0,
-            0,
-            0,
-            0,
-            0,
-            0,
-        ],
-        length: 6,
-    }
-}
-
-fn excused_word() -> Line
-    ensures { λ r. ⌜ r ≡ lineOf excusedWord ⌝ }
-{
-    Line {
-        bytes: [
-            69,
-            88,
-            67,
-            85,
-            83,
-            69,
-            68,
-            0,
-            0,
-            0,
-            0,
-            0,
-            0,
-            0,
-            0,
-            0,
-            0,
-            0,
-            0,
-            0,
-            0,
-            0,
-            0,
-            0,
-        ],
-        length: 7,
-    }
-}
-
-fn refused_word() -> Line
-    ensures { λ r. ⌜ r ≡ lineOf refusedWord ⌝ }
-{
-    Line {
-        bytes: [
-            82,
-            69,
-            70,
-            85,
-            83,
-            69,
-            68,
-            0,
-            0,
-            0,
-            0,
-            0,
-            0,
-            0,
-            0,
-            0,
-            0,
-            0,
-            0,
-            0,
-            0,
-            0,
-            0,
-            0,
-        ],
-        length: 7,
-    }
-}
-
-fn holds_word() -> Line
-    ensures { λ r. ⌜ r ≡ lineOf holdsWord ⌝ }
-{
-    Line {
-        bytes: [
-            72,
-            79,
-            76,
-            68,
-            83,
-            0,
-            0,
-            0,
-            0,
-            0,
-            0,
-            0,
-            0,
-            0,
-            0,
-            0,
-            0,
-            0,
-            0,
-            0,
-            0,
-            0,
-            0,
-            0,
-        ],
-        length: 5,
-    }
-}
-
-// The line with one byte more.
-fn push(line: Line, b: u8) -> Line
-    requires { ⌜ (line .length < 24) × (length (line .bytes) ≡ 24) ⌝ }
-    ensures { λ r. ⌜ Grown line (b ∷ []) r ⌝ }
-{
-    let mut bytes = line.bytes;
-    let at = line.length;
-    bytes[at] = b;
-    Line {
-        bytes,
-        length: at + 1,
-    }
-}
-
-// The line with a space and a number more.
-fn push_number(line: Line, number: usize) -> Line
-    requires { ⌜ (line .length < 22) × (length (line .bytes) ≡ 24) × (number < 100) ⌝ }
-    ensures { λ r. ⌜ Grown line (32 ∷ decimalOf number) r × (r .length ≤ line .length + 3) ⌝ }
-{
-    let spaced = push(line, 32);
-    let first = decimal_byte(number, 0);
-    let begun = push(spaced, first);
-    if number < 10 {
-        return begun;
-    }
-    let second = decimal_byte(number, 1);
-    push(begun, second)
-}
-
-// The line of one number after a word.
-fn numbered(word: Line, number: usize) -> Line
-    requires { ⌜ (word .length < 8) × (length (word .bytes) ≡ 24) × (number < 100) ⌝ }
-    ensures { λ r. ⌜ Grown word (32 ∷ (decimalOf number ++ (10 ∷ []))) r × (r .length ≤ 24) ⌝ }
-{
-    let line = push_number(word, number);
-    push(line, 10)
-}
-
-// The line of a broken place: its clause and its three cycles.
-fn broken_line(place: Place) -> Line
-    requires { ⌜ SmallPlace place ⌝ }
-    ensures { λ r. ⌜ (r ≡ lineOf (brokenText place)) × (r .length ≤ length (r .bytes)) ⌝ }
-{
-    let word = broken_word();
-    let to_clause = push_number(word, place.clause);
-    let to_i = push_number(to_clause, place.i);
-    let to_j = push_number(to_i, place.j);
-    let to_k = push_number(to_j, place.k);
-    push(to_k, 10)
-}
-
-fn line_of(answer: Answer) -> Line
-    requires { ⌜ Small answer ⌝ }
-    ensures { λ r. ⌜ (r ≡ lineOf (lineText answer)) × (r .length ≤ length (r .bytes)) ⌝ }
+// Puts the line of an answer and gives its length.
+fn put_answer(out: &mut [u8], answer: Answer) -> usize
+    requires { ⌜ (24 ≤ length (now out)) × Small answer ⌝ }
+    ensures { λ r. ⌜ (Put (now (out .entry)) (now (out .exit)) 0 r (lineText answer)) × (r ≤ 24) ⌝ }
 {
     match answer {
-        Answer::Refused(number) => {
-            let word = refused_word();
-            numbered(word, number)
-        }
+        Answer::Refused(number) => put_refused(out, number),
         Answer::Excused(clause) => {
-            let word = excused_word();
-            numbered(word, clause)
+            let numbers = [clause];
+            put_line(out, b"EXCUSED", &numbers)
         }
-        Answer::Broken(place) => broken_line(place),
-        Answer::Holds => {
-            let word = holds_word();
-            push(word, 10)
+        Answer::Broken(place) => {
+            let numbers = [place.clause, place.i, place.j, place.k];
+            put_line(out, b"BROKEN", &numbers)
         }
+        Answer::Holds => put_line(out, b"HOLDS", &[]),
     }
 }
 
@@ -239,10 +49,18 @@ fn answer_for(input: &[u8]) -> Answer
     check(sheet, trace, &mut words)
 }
 
+fn blank() -> [u8; 24]
+    ensures { λ r. ⌜ r ≡ replicate 24 0 ⌝ }
+{
+    [0; 24]
+}
+
 // What the check program writes for its input, short ones too.
 pub fn check_line(input: &[u8]) -> Line
     ensures { λ r. ⌜ (r ≡ lineOf (lineFor (now (input .entry)))) × (r .length ≤ length (r .bytes)) ⌝ }
 {
     let answer = answer_for(input);
-    line_of(answer)
+    let mut bytes = blank();
+    let length = put_answer(&mut bytes, answer);
+    Line { bytes, length }
 }

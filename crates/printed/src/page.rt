@@ -1,14 +1,13 @@
 // What the table program writes.
 ghost use mathlib.Core.Path.{_≡_};
 ghost use Prim.Native.Nat.{_+_, _<_, _≤_};
-ghost use lib.ListN.{length, drop};
-ghost use Rattle.printed.specs.Text.{textOf, pageOf, answerTo, printedFor};
+ghost use lib.ListN.{length, drop, replicate};
+ghost use Rattle.printed.specs.Page.{glyphOf, rowByte, tableText, textOf, pageOf, answerTo, printedFor};
 use crate::input::byte_at;
 use crate::input::lent_words;
 use crate::input::split;
 use crate::input::word_at;
-use crate::text::text_byte;
-use crate::text::text_length;
+use crate::text::put_refused;
 use checker::table::TableAnswer;
 use checker::table::table;
 
@@ -18,24 +17,61 @@ pub struct Page {
     pub length: usize,
 }
 
+// The code of a hexadecimal digit.
+fn glyph(d: u64) -> u8
+    requires { ⌜ d < 16 ⌝ }
+    ensures { λ r. ⌜ r ≡ glyphOf d ⌝ }
+{
+    if d < 10 { 48 + d as u8 } else { 87 + d as u8 }
+}
+
+// Byte j of a row's line.
+fn row_byte(row: u64, j: usize) -> u8
+    requires { ⌜ j < 17 ⌝ }
+    ensures { λ r. ⌜ r ≡ rowByte row j ⌝ }
+{
+    if j == 16 {
+        return 10;
+    }
+    let shift = 4 * (15 - j);
+    glyph((row >> shift) % 16)
+}
+
 fn blank() -> [u8; 1088]
-    ensures { λ r. ⌜ 1088 ≡ length r ⌝ }
+    ensures { λ r. ⌜ r ≡ replicate 1088 0 ⌝ }
 {
     [0; 1088]
 }
 
+// The lines of a table's rows.
+fn row_lines(rows: &[u64; 64]) -> [u8; 1088]
+    ensures { λ r. ⌜ r ≡ tableText (now (rows .entry)) ⌝ }
+{
+    let mut bytes = blank();
+    let mut k = 0;
+    while k < 1088 {
+        let b = k / 17;
+        bytes[k] = row_byte(rows[b], k % 17);
+        k += 1;
+    }
+    bytes
+}
+
+// The page of an answer: the number of its refusal, or 0, and its rows.
 fn page_of(number: usize, rows: &[u64; 64]) -> Page
     requires { ⌜ number < 100 ⌝ }
     ensures { λ r. ⌜ r ≡ pageOf (textOf number (now (rows .entry))) ⌝ }
     ensures { λ r. ⌜ r .length ≤ length (r .bytes) ⌝ }
 {
-    let mut bytes = blank();
-    let mut k = 0;
-    while k < 1088 {
-        bytes[k] = text_byte(number, rows, k);
-        k += 1;
+    if number == 0 {
+        let lines = row_lines(rows);
+        return Page {
+            bytes: lines,
+            length: 1088,
+        };
     }
-    let length = text_length(number, rows);
+    let mut bytes = blank();
+    let length = put_refused(&mut bytes, number);
     Page { bytes, length }
 }
 

@@ -1,8 +1,12 @@
-// Reads a sheet, the first 1,024 bytes of the input, and writes the formula of its requirement, or "REFUSED" and the number.
+// Writes the formula of a sheet, or "REFUSED" and the number. Standard input is the sheet; 1,024 bytes are read.
+use libc::STDIN_FILENO;
+use libc::STDOUT_FILENO;
+
 fn main() {
     let mut input = [0u8; 1024];
-    let n = io::read_full(0, &mut input);
-    let mut out = [0u8; 8192];
-    let size = translator::print::print_formula(&input[..n], &mut out);
-    io::write_all(1, &out[..size]);
+    let got = io::read_full(STDIN_FILENO, &mut input);
+    let output = printed::formula::formula_output(&input[..got]);
+    let bytes = output.bytes;
+    let length = output.length;
+    io::write_all(STDOUT_FILENO, &bytes[..length]);
 }

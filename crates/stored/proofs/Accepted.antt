@@ -2,14 +2,13 @@
 use Prim.Native.Nat.{ℕ, zero, suc, _+_, _*_, _^_, _≤_, _<_}
 use mathlib.Core.Bool.{Bool, true, false, _&&_, false≢true}
 use mathlib.Core.List.{List}
-use mathlib.Core.Path.{_≡_, refl, sym, subst}
+use mathlib.Core.Path.{_≡_, refl, subst}
 use native.Mathlib.Nat.{pow-le-pow-right}
 use native.Mathlib.Omega.{arith}
 use borrow.Author.Tests.{ltb-true, leb-true, eqb-true}
 use lib.Dec.{leb, ltb, eqb}
 use lib.ListN.{length, getD, length-take, length-drop}
 use Rattle.semantics.specs.Proposition.{bit}
-use Rattle.semantics.specs.Placement.{Names}
 use Rattle.semantics.specs.Clause.{Part, Clause}
 use Rattle.semantics.specs.Reach.{within, fits, partsFit, clauseFits, allFit}
 use Rattle.stored.specs.declared.Node.{Node}
@@ -18,16 +17,16 @@ use Rattle.stored.specs.declared.Header.{Header}
 use Rattle.stored.specs.declared.SheetAnswer.the-variants.{Accepted, Refused}
 use Rattle.stored.specs.declared.TraceAnswer.{TraceAnswer}
 use Rattle.stored.specs.declared.TraceAnswer.the-variants.{Cycles}
-use Rattle.stored.specs.Bytes.{inOrder, lowest}
+use Rattle.stored.specs.Bytes.{inOrder}
 use Rattle.stored.specs.Node.{requirementSorts, isFormulaNode, nodeRight}
-use Rattle.stored.specs.Tree.{pick, propositionOp, formulaOp, propositionOf, propositionAt, formulaOf, formulaAt}
+use Rattle.stored.specs.Tree.{pick, formulaAt}
 use Rattle.stored.specs.Clause.{partsUsed, partRight, clauseRight, partNamed, clauseNamed, clauseRightAt, clauseNamedAt, kindOf, partOf, clauseOf}
 use Rattle.stored.specs.Sheet.{headerOf, clausesStart, sheetEnd, nodePart, clausePart, nodesOf, storedOf, counted, sized, nodesRight, operandsFound, clausesRight, clausesNamed, sheetRules, sheetRefusal, sheetAnswer, clauseIn, clausesOf}
 use Rattle.stored.specs.Trace.{cycleCount, cycleAt, cycleRight, cyclesRight, traceRules, traceRefusal, traceAnswer, cyclesOf}
 use Rattle.semantics.proofs.Tests.{and-left, and-right, and-intro}
 use Rattle.stored.proofs.Rules.{every-at, lowest-kept, Lowest, lowest-law, length-inOrder, getD-inOrder}
-use Rattle.stored.proofs.Tree.{Earlier, sort-below, Operands, operands, proposition-law, formula-law}
-use Rattle.stored.proofs.Reach.{NodesKept, Reached, reach-law, bit-listed}
+use Rattle.stored.proofs.Tree.{Earlier, sort-below}
+use Rattle.stored.proofs.Reach.{NodesKept, bit-listed}
 
 -- the counts of an accepted sheet
 pub record Counts (h : Header) : Type 0 where
@@ -137,8 +136,6 @@ length-clauses s o =
 -- a part that rules 8 and 9 take
 pub record PartKept (x : ℕ → Node) (n m : ℕ) (used : Bool) (root mask : ℕ) : Type 0 where
   pub root-found : used ≡ true → Earlier requirementSorts x n root 2
-  pub root-zero : used ≡ false → root ≡ 0
-  pub mask-zero : used ≡ false → mask ≡ 0
   pub small : mask < 2 ^ m
   pub named : used ≡ true → within (bit mask) (formulaAt x root) ≡ true
 
@@ -147,16 +144,12 @@ unfolding partRight partNamed isFormulaNode
 part-kept x n m true root mask e f =
     record {
       root-found = λ u. sort-below requirementSorts x n root 2 (omega arith) (eqb-true _ 2 e);
-      root-zero = λ u. absurd (false≢true (sym u));
-      mask-zero = λ u. absurd (false≢true (sym u));
       small = ltb-true mask (2 ^ m) (and-left (ltb mask (2 ^ m)) _ f);
       named = λ u. and-right (ltb mask (2 ^ m)) _ f;
     }
 part-kept x n m false root mask e f =
     record {
       root-found = λ u. absurd (false≢true u);
-      root-zero = λ u. eqb-true root 0 (and-left (eqb root 0) (eqb mask 0) e);
-      mask-zero = λ u. eqb-true mask 0 (and-right (eqb root 0) (eqb mask 0) e);
       small = ltb-true mask (2 ^ m) (and-left (ltb mask (2 ^ m)) _ f);
       named = λ u. absurd (false≢true u);
     }
@@ -316,27 +309,7 @@ pub cycles-at : (t : List ℕ) (i : ℕ) → i < cycleCount t → getD (cyclesOf
 unfolding cyclesOf
 cycles-at t i h = getD-inOrder (cycleCount t) (cycleAt t) i 0 h
 
--- the tree at a node of an accepted sheet is the constructor of its op over its operands' trees
-module _ (s : List ℕ) (o : Opened s) (i : ℕ) (h : i < headerOf s .nodes) where
-  pub accepted-proposition : propositionAt (nodesOf s) i ≡ propositionOf (propositionOp (nodesOf s i .op)) (nodesOf s i) (propositionAt (nodesOf s))
-  accepted-proposition = proposition-law requirementSorts (nodesOf s) i (o .nodes-kept .operands-kept i h)
-
-  pub accepted-formula : formulaAt (nodesOf s) i ≡ formulaOf (formulaOp (nodesOf s i .op)) (nodesOf s i) (propositionAt (nodesOf s)) (formulaAt (nodesOf s))
-  accepted-formula = formula-law requirementSorts (nodesOf s) i (o .nodes-kept .operands-kept i h)
-
-  -- its operands are earlier nodes of the sorts needed
-  pub accepted-operands : Operands requirementSorts (nodesOf s) i
-  accepted-operands = operands requirementSorts (nodesOf s) i (o .nodes-kept .operands-kept i h)
-
-  -- a set has the names of its tree exactly if it has those of its reach mask
-  pub accepted-reach : (names : Names) → Reached names (nodesOf s) i
-  accepted-reach names = reach-law (headerOf s .signals) (headerOf s .names) (headerOf s .nodes) (nodesOf s) (o .nodes-kept) names i h
-
 -- whatever the bytes, the answer is none of the numbers or one of them, and the lowest that applies
 pub sheet-lowest : (s : List ℕ) → Lowest 1 (sheetRules s) (sheetRefusal s)
 unfolding sheetRefusal
 sheet-lowest s = lowest-law 1 (sheetRules s) (omega arith)
-
-pub trace-lowest : (s : ℕ) (t : List ℕ) → Lowest 10 (traceRules s t) (traceRefusal s t)
-unfolding traceRefusal
-trace-lowest s t = lowest-law 10 (traceRules s t) (omega arith)

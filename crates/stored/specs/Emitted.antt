@@ -1,6 +1,6 @@
 -- Document 01: a sheet of kind 2, an emitted formula: its form, and when it is true of a trace.
 use Prim.Native.Nat.{ℕ, _-_}
-use mathlib.Core.Bool.{Bool, true, _&&_}
+use mathlib.Core.Bool.{Bool, _&&_}
 use mathlib.Core.List.{List}
 use lib.Dec.{leb, eqb}
 use lib.ListN.{getD}

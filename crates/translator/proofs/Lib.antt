@@ -1,3 +1,2 @@
--- Laws of the translation, and of what its program prints.
+-- Laws of the translation.
 pub mod Translating
-pub mod Printing

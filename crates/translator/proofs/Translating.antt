@@ -89,14 +89,15 @@ module _ (s : List ℕ) (o : Opened s) (y : List ℕ) (signals : headerOf y .sig
         operands = λ i l. o .nodes-kept .operands-kept i l;
       }
 
-  pub clauses-in-sheet : ClausesIn y (nodePart s) (headerOf s .nodes) (clausePart s) (headerOf s .clauses)
+  -- the first n of them
+  pub clauses-in-sheet : (n : ℕ) → n ≤ headerOf s .clauses → ClausesIn y (nodePart s) (headerOf s .nodes) (clausePart s) n
   unfolding nodesOf storedOf
-  clauses-in-sheet =
+  clauses-in-sheet n h =
       record {
-        few = o .in-range .few-clauses;
+        few = omega (arith, o .in-range .few-clauses);
         inside = omega (arith, length-clauses s o);
-        right = λ k l. o .clause-right k l;
-        named = λ k l. rw names (o .clause-named k l);
+        right = λ k l. o .clause-right k (omega arith);
+        named = λ k l. rw names (o .clause-named k (omega arith));
       }
 
 clauses-same : (s : List ℕ) → clausesAt (nodePart s) (clausePart s) (headerOf s .clauses) ≡ clausesOf s
@@ -337,9 +338,10 @@ module _ (s : List ℕ) (h : Header) (e : headerOf s ≡ h) (o : Opened s) (y : 
       (subst (λ (g : Header). NodesIn y (nodePart s) (g .nodes)) e
       (nodes-in-sheet s o y (signals ∙ ap (λ (g : Header). g .signals) (sym e)) (names ∙ ap (λ (g : Header). g .names) (sym e))))
 
-  pub clauses-read : (nodes clauses : List ℕ) → nodes ≡ nodePart s → clauses ≡ clausePart s → ClausesIn y nodes (h .nodes) clauses (h .clauses)
-  clauses-read nodes clauses at after =
-      subst (λ (x : List ℕ). ClausesIn y x (h .nodes) clauses (h .clauses)) (sym at)
-      (subst (λ (x : List ℕ). ClausesIn y (nodePart s) (h .nodes) x (h .clauses)) (sym after)
-      (subst (λ (g : Header). ClausesIn y (nodePart s) (g .nodes) (clausePart s) (g .clauses)) e
-      (clauses-in-sheet s o y (signals ∙ ap (λ (g : Header). g .signals) (sym e)) (names ∙ ap (λ (g : Header). g .names) (sym e)))))
+  pub clauses-read : (nodes clauses : List ℕ) → nodes ≡ nodePart s → clauses ≡ clausePart s → (n : ℕ) → n ≤ h .clauses → ClausesIn y nodes (h .nodes) clauses n
+  clauses-read nodes clauses at after n few =
+      subst (λ (x : List ℕ). ClausesIn y x (h .nodes) clauses n) (sym at)
+      (subst (λ (x : List ℕ). ClausesIn y (nodePart s) (h .nodes) x n) (sym after)
+      (subst (λ (g : Header). ClausesIn y (nodePart s) (g .nodes) (clausePart s) n) e
+      (clauses-in-sheet s o y (signals ∙ ap (λ (g : Header). g .signals) (sym e)) (names ∙ ap (λ (g : Header). g .names) (sym e)) n
+      (subst (λ (g : Header). n ≤ g .clauses) (sym e) few))))

@@ -1,4 +1,3 @@
 -- What translate promises.
 pub mod Answer
 pub mod Translated
-pub mod Printed

@@ -1,6 +1,4 @@
 // The translator: writes the formula of a sheet's requirement as a kind 2 sheet.
-pub mod print;
-
 use clauses::requirement;
 use emission::shared;
 use stored::SheetAnswer;

@@ -161,7 +161,9 @@ pub struct Tally {
     pub refused: usize,
     pub tables: usize,
     pub formulas: usize,
-    pub evaluations: usize,
+    /// Evaluations of a formula that gave true, and false.
+    pub truths: usize,
+    pub falsehoods: usize,
 }
 
 impl Tally {
@@ -174,18 +176,27 @@ impl Tally {
         }
     }
 
-    pub fn print(&self, what: &str) {
-        let checks = self.holds + self.excused + self.broken + self.refused;
+    pub fn evaluated(&mut self, truth: bool) {
+        if truth {
+            self.truths += 1;
+        } else {
+            self.falsehoods += 1;
+        }
+    }
+
+    /// Prints the counts and demands of each kind so many at least, so that no generator falls to
+    /// one verdict unnoticed: held, excused, broken and refused checks, true and false formulas.
+    pub fn demand(&self, what: &str, least: [usize; 6]) {
+        let Tally { holds, excused, broken, refused, tables, formulas, truths, falsehoods } = self;
         report(format!(
-            "{what}: {checks} checks ({} hold, {} excused, {} broken, {} refused), {} tables, \
-             {} formulas evaluated {} times",
-            self.holds,
-            self.excused,
-            self.broken,
-            self.refused,
-            self.tables,
-            self.formulas,
-            self.evaluations
+            "{what}: {} checks ({holds} hold, {excused} excused, {broken} broken, {refused} \
+             refused), {tables} tables, {formulas} formulas evaluated {} times ({truths} true, \
+             {falsehoods} false)",
+            holds + excused + broken + refused,
+            truths + falsehoods
         ));
+        let counts = [*holds, *excused, *broken, *refused, *truths, *falsehoods];
+        let enough = counts.iter().zip(&least).all(|(count, least)| count >= least);
+        assert!(enough, "{what}: {counts:?} came, and {least:?} at least are demanded");
     }
 }

@@ -1,18 +1,48 @@
-//! The line that the program prints for its input.
+//! What the programs write for their input.
 
 use super::clauses::Verdict;
 use super::stored::field;
+use super::Number;
 
-pub fn line(input: &[u8]) -> String {
-    // It reads the first 1,024 bytes and no more.
-    let input = &input[..input.len().min(1024)];
-    // The sheet ends where its length field says, or with the input.
+/// The sheet ends where its length field says, or with the input; the rest is the trace.
+fn split(input: &[u8]) -> (&[u8], &[u8]) {
     let end = if input.len() < 2 { input.len() } else { input.len().min(2 + field(input, 0)) };
-    let (sheet, trace) = input.split_at(end);
-    match super::check(sheet, trace, 4096) {
+    input.split_at(end)
+}
+
+fn refused(number: Number) -> String {
+    format!("REFUSED {number}\n")
+}
+
+/// The answer of `sheetcheck`, which reads the first 1,024 bytes and no more.
+pub fn verdict(input: &[u8]) -> Result<Verdict, Number> {
+    let (sheet, trace) = split(&input[..input.len().min(1024)]);
+    super::check(sheet, trace, 4096)
+}
+
+/// The line of `sheetcheck`.
+pub fn line(input: &[u8]) -> String {
+    match verdict(input) {
         Ok(Verdict::Holds) => "HOLDS\n".to_string(),
         Ok(Verdict::Excused(clause)) => format!("EXCUSED {clause}\n"),
         Ok(Verdict::Broken(clause, i, j, k)) => format!("BROKEN {clause} {i} {j} {k}\n"),
-        Err(number) => format!("REFUSED {number}\n"),
+        Err(number) => refused(number),
     }
+}
+
+/// The page of `sheettable`, which reads five bytes more: a node in two, then a byte for each name's
+/// cycle. Those that are missing count as zero.
+pub fn page(input: &[u8]) -> Result<String, String> {
+    let input = &input[..input.len().min(1029)];
+    let byte = |at: usize| input.get(at).map_or(0, |&byte| byte as usize);
+    let (sheet, trace) = split(&input[input.len().min(5)..]);
+    let cycles = [byte(2), byte(3), byte(4)];
+    super::table(sheet, trace, byte(0) * 256 + byte(1), cycles, 4096, 64)
+        .map(|rows| rows.iter().map(|row| format!("{row:016x}\n")).collect())
+        .map_err(refused)
+}
+
+/// The sheet that `sheetformula` reads, all of the first 1,024 bytes, or the line of its refusal.
+pub fn sheet(input: &[u8]) -> Result<super::Sheet, String> {
+    super::translate(&input[..input.len().min(1024)], 8192).map_err(refused)
 }

@@ -1,7 +1,7 @@
--- `sheetformula::main` meets its contract.
+-- `sheetformula::main` meets its contract: what is written lies inside the formula or line.
+use mathlib.Core.Path.{sym}
+use lib.Seq.{length-take-le}
 use borrow.Author.Needs.{needs}
-use native.Mathlib.Omega.{arith}
-use lib.ListN.{length-take}
 use Rattle.sheetformula.proofs.main.Statement.{statement}
 use Rattle.sheetformula.proofs.main.Tie as tie
 
@@ -14,20 +14,17 @@ read-full-requires c κs = search needs
 array-share-prefix-input : tie.Need-array-share-prefix-input
 array-share-prefix-input c = search needs
 
-slice-aggregate-print-formula : tie.Need-slice-aggregate-print-formula
-slice-aggregate-print-formula c = search needs
+slice-aggregate-formula-output : tie.Need-slice-aggregate-formula-output
+slice-aggregate-formula-output c = search needs
 
-slice-aggregate-print-formula-2 : tie.Need-slice-aggregate-print-formula-2
-slice-aggregate-print-formula-2 c = search needs
+formula-output-requires : tie.Need-formula-output-requires
+formula-output-requires c κs = search needs
 
-print-formula-requires : tie.Need-print-formula-requires
-print-formula-requires c κs = search needs
-
-array-share-prefix-out : tie.Need-array-share-prefix-out
-array-share-prefix-out c = search needs
+array-share-prefix-bytes : tie.Need-array-share-prefix-bytes
+array-share-prefix-bytes c = c .before .formula-output .ensures .inside
 
 slice-aggregate-write-all : tie.Need-slice-aggregate-write-all
-slice-aggregate-write-all c = simp length-take (omega arith)
+slice-aggregate-write-all c = sym (length-take-le _ _ (c .before .before .formula-output .ensures .inside))
 
 write-all-requires : tie.Need-write-all-requires
 write-all-requires c κs = search needs
@@ -42,10 +39,9 @@ main-spec =
     slice-aggregate-read-full
     read-full-requires
     array-share-prefix-input
-    slice-aggregate-print-formula
-    slice-aggregate-print-formula-2
-    print-formula-requires
-    array-share-prefix-out
+    slice-aggregate-formula-output
+    formula-output-requires
+    array-share-prefix-bytes
     slice-aggregate-write-all
     write-all-requires
     returns)

@@ -68,7 +68,7 @@ put-requirement-requires c κs =
     let names = s .names ∙ empty-names _ _ _ _ big e in
     let at = c .before .before .before .before .before .before .before .before .before .before .node-part .ensures in
     let after = c .before .before .before .before .before .before .before .before .before .clause-part .ensures in
-    (c .before .before .before .put-shared .ensures .0, omega (arith, s .few, empty-count _ _ _ _ big e, k .few-names), nodes-read _ _ (head (c .before .before .before .before .before .before .before .before .before .before .before)) (opened (c .before .before .before .before .before .before .before .before .before .before .before)) _ signals names _ at, clauses-read _ _ (head (c .before .before .before .before .before .before .before .before .before .before .before)) (opened (c .before .before .before .before .before .before .before .before .before .before .before)) _ signals names _ _ at after)
+    (c .before .before .before .put-shared .ensures .0, omega (arith, s .few, empty-count _ _ _ _ big e, k .few-names), nodes-read _ _ (head (c .before .before .before .before .before .before .before .before .before .before .before)) (opened (c .before .before .before .before .before .before .before .before .before .before .before)) _ signals names _ at, clauses-read _ _ (head (c .before .before .before .before .before .before .before .before .before .before .before)) (opened (c .before .before .before .before .before .before .before .before .before .before .before)) _ signals names _ _ at after _ (omega arith))
 
 add-emitted-length : tie.Need-add-emitted-length
 add-emitted-length c = omega (arith, c .before .before .put-requirement .ensures .0 .step .good .few-nodes, c .before .before .put-requirement .ensures .1)

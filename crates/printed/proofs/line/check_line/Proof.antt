@@ -1,7 +1,10 @@
 -- `printed::line::check_line` meets its contract.
-use mathlib.Core.Path.{_∙_, ap}
+use Prim.Native.Nat.{ℕ}
+use mathlib.Core.List.{List}
+use mathlib.Core.Path.{_∙_, ap, ap₂}
 use Rattle.checker.specs.declared.check.Answer.{Answer}
 use Rattle.printed.specs.Line.{lineText, lineOf, lineFor}
+use Rattle.printed.proofs.Texts.{put-padded}
 use borrow.Author.Needs.{needs}
 use Rattle.printed.proofs.line.check_line.Statement.{statement}
 use Rattle.printed.proofs.line.check_line.Tie as tie
@@ -9,12 +12,25 @@ use Rattle.printed.proofs.line.check_line.Tie as tie
 answer-for-requires : tie.Need-answer-for-requires
 answer-for-requires c κs = search needs
 
-line-of-requires : tie.Need-line-of-requires
-line-of-requires c κs = c .answer-for .ensures .1
+blank-requires : tie.Need-blank-requires
+blank-requires c κs = search needs
+
+slice-aggregate-put-answer : tie.Need-slice-aggregate-put-answer
+slice-aggregate-put-answer c = search needs
+
+put-answer-requires : tie.Need-put-answer-requires
+put-answer-requires c κs = search needs
 
 returns : tie.Need-returns
-unfolding lineFor
-returns c = (c .line-of .ensures .0 ∙ ap (λ (x : Answer). lineOf (lineText x)) (c .before .answer-for .ensures .0), c .line-of .ensures .1)
+unfolding lineOf lineFor
+returns c =
+    let e = c .before .put-answer .ensures in
+    let w = put-padded 24 (c .before .before .before .blank .ensures) (e .0) (e .1) in (
+      ap₂ (λ (l : List ℕ) (n : ℕ). record { bytes = l; length = n }) (w .0) (w .1)
+          ∙ ap (λ (x : Answer). lineOf (lineText x)) (c .before .before .before .before .answer-for .ensures .0),
+      w .2,
+    )
 
 pub check-line-spec : {M : Type 1} → statement M
-check-line-spec = tie.close (tie.spec answer-for-requires line-of-requires returns)
+check-line-spec =
+    tie.close (tie.spec answer-for-requires blank-requires slice-aggregate-put-answer put-answer-requires returns)

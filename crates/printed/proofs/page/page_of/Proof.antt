@@ -1,75 +1,51 @@
 -- `printed::page::page_of` meets its contract.
-use mathlib.Core.Path.{_≡_, sym, _∙_, ap₂}
-use native.Mathlib.Omega.{arith}
-use Prim.Native.Nat.{ℕ, _-_, _≤_, _<_}
-use borrow.Author.Needs.{needs}
+use Prim.Native.Nat.{ℕ}
 use mathlib.Core.List.{List}
-use lib.ListN.{length, getD, length-set}
+use mathlib.Core.Path.{sym, _∙_, ap, ap₂}
+use native.Mathlib.Omega.{arith}
+use lib.ListN.{length}
 use denote.Ref.{now}
-use Rattle.printed.proofs.Copies.{copied-more, copied-all}
-use Rattle.printed.specs.Text.{textOf, pageOf}
+use Rattle.printed.specs.Page.{tableText, pageOf}
+use Rattle.printed.proofs.Texts.{put-padded, padded-whole, table-text, table-length, refusal-text}
+use borrow.Author.Needs.{needs}
 use Rattle.printed.proofs.page.page_of.Statement.{statement}
 use Rattle.printed.proofs.page.page_of.Tie as tie
 
-abbrev Inv-loop : tie.InvT-loop
-Inv-loop number rows bytes₀ k₀ bytes k = (k ≤ 1088) × (lib.ListN.length bytes ≡ 1088) × ((j : ℕ) → j < k → getD bytes j 0 ≡ getD (textOf number rows) j 0)
+row-lines-requires : tie.Need-row-lines-requires
+row-lines-requires c κs = search needs
 
-abbrev μ-loop : tie.MeasureT-loop
-μ-loop number rows bytes₀ k₀ bytes k = 1088 - k
-
-blank-requires : tie.Need-blank-requires Inv-loop μ-loop
-blank-requires c κs = search needs
-
-loop-holds : tie.Need-loop-holds Inv-loop μ-loop
-loop-holds c = (omega arith, sym (c .blank .ensures), (λ j l. absurd (omega arith)))
-
-text-byte-requires : tie.Need-text-byte-requires Inv-loop μ-loop
-text-byte-requires c κs = omega (arith, c .before .before .before .pre)
-
-array-write-bytes : tie.Need-array-write-bytes Inv-loop μ-loop
-array-write-bytes c = omega arith
-
-add-k : tie.Need-add-k Inv-loop μ-loop
-add-k c = search needs
-
-loop-less : tie.Need-loop-less Inv-loop μ-loop
-loop-less c = search needs
-
-loop-again : tie.Need-loop-again Inv-loop μ-loop
-loop-again c =
-    let at = c .before .before .loop in
-    let a = c .before .before .before .before .args in (
-      omega arith,
-      length-set (at .bytes) (at .k) _ ∙ at .inv .1,
-      copied-more (λ j. getD (textOf (a .number) (now (a .rows))) j 0) (at .bytes) (at .k) _ (omega arith) (c .text-byte .ensures) (at .inv .2),
-    )
-
-text-length-requires : tie.Need-text-length-requires Inv-loop μ-loop
-text-length-requires c κs = search needs
-
-returns : tie.Need-returns Inv-loop μ-loop
+returns : tie.Need-returns
 unfolding pageOf
 returns c =
-    let at = c .before .before .loop in
-    let a = c .before .before .before .before .args in (
-      ap₂ (λ (l : List ℕ) (n : ℕ). record { bytes = l; length = n })
-          (copied-all (λ j. getD (textOf (a .number) (now (a .rows))) j 0) 1088 (at .bytes) (at .k) (omega arith) (at .inv .1) (at .inv .2))
-          (c .text-length .ensures .0),
-      omega (arith, c .text-length .ensures .1, at .inv .1),
+    let a = c .before .before .args in
+    let e = c .row-lines .ensures in
+    let long = table-length (now (a .rows)) in (
+      ap₂ (λ (l : List ℕ) (n : ℕ). record { bytes = l; length = n }) (e ∙ sym (padded-whole 1088 (tableText (now (a .rows))) long)) (sym long)
+          ∙ sym (ap pageOf (table-text (now (a .rows)) (a .number) (c .before .if1 .taken))),
+      omega (arith, ap length e, long),
+    )
+
+blank-requires : tie.Need-blank-requires
+blank-requires c κs = search needs
+
+slice-aggregate-put-refused : tie.Need-slice-aggregate-put-refused
+slice-aggregate-put-refused c = search needs
+
+put-refused-requires : tie.Need-put-refused-requires
+put-refused-requires c κs = search needs
+
+returns-2 : tie.Need-returns-2
+unfolding pageOf
+returns-2 c =
+    let a = c .before .before .before .before .before .args in
+    let e = c .before .put-refused .ensures in
+    let w = put-padded 1088 (c .before .before .before .blank .ensures) (e .0) (omega (arith, e .1)) in (
+      ap₂ (λ (l : List ℕ) (n : ℕ). record { bytes = l; length = n }) (w .0) (w .1)
+          ∙ sym (ap pageOf (refusal-text (now (a .rows)) (a .number) (c .before .before .before .before .if1 .left))),
+      w .2,
     )
 
 pub page-of-spec : {M : Type 1} → statement M
 page-of-spec =
     tie.close
-    (tie.spec
-    Inv-loop
-    μ-loop
-    blank-requires
-    loop-holds
-    text-byte-requires
-    array-write-bytes
-    add-k
-    loop-less
-    loop-again
-    text-length-requires
-    returns)
+    (tie.spec row-lines-requires returns blank-requires slice-aggregate-put-refused put-refused-requires returns-2)

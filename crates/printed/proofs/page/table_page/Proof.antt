@@ -2,7 +2,7 @@
 use mathlib.Core.Path.{_∙_, ap}
 use borrow.Author.Needs.{needs}
 use Rattle.checker.specs.declared.table.TableAnswer.{TableAnswer}
-use Rattle.printed.specs.Text.{textOf, pageOf, printedFor}
+use Rattle.printed.specs.Page.{textOf, pageOf, printedFor}
 use Rattle.printed.proofs.page.table_page.Statement.{statement}
 use Rattle.printed.proofs.page.table_page.Tie as tie
 

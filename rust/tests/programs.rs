@@ -1,0 +1,147 @@
+//! The three programs beside the reference. FASUNQIR_PROGRAMS is the directory that they are in.
+
+mod build;
+mod cases;
+mod compare;
+mod generate;
+mod reference;
+
+use build::{hex, Sheet};
+use cases::{examples, paper, Case};
+use compare::{Tally, Translated};
+use generate::{damaged, Random, Shape};
+use reference::{formula, program};
+use std::io::Write;
+use std::path::PathBuf;
+use std::process::{Command, Stdio};
+
+/// What a program writes for its input.
+fn written(name: &str, input: &[u8]) -> Vec<u8> {
+    let programs = std::env::var_os("FASUNQIR_PROGRAMS").expect("FASUNQIR_PROGRAMS isn't set");
+    let path = PathBuf::from(programs).join(name);
+    let mut child = Command::new(&path)
+        .stdin(Stdio::piped())
+        .stdout(Stdio::piped())
+        .spawn()
+        .unwrap_or_else(|error| panic!("{}: {error}", path.display()));
+    // The program may end before it has taken a long input.
+    child.stdin.take().unwrap().write_all(input).ok();
+    child.wait_with_output().unwrap().stdout
+}
+
+fn cases() -> Vec<Case> {
+    let mut cases = vec![examples::program()];
+    cases.extend(examples::traps());
+    cases.extend(examples::corners());
+    cases.extend(paper::cases());
+    cases
+}
+
+/// Inputs that are no sheet at all.
+fn odd() -> Vec<Vec<u8>> {
+    vec![vec![], vec![0], vec![0, 0], vec![255; 1024], vec![0; 3000]]
+}
+
+/// A small random sheet.
+fn small(random: &mut Random, case: usize) -> Sheet {
+    let shape = Shape { signals: 2, names: case % 4, nodes: 10, clauses: 2, numbers: 4 };
+    generate::drawn(random, shape)
+}
+
+/// The input, and with bytes after it: one more, up to the last that is read, and past it.
+fn with_tails(input: Vec<u8>, read: usize) -> Vec<Vec<u8>> {
+    let tails = [0, 1, read - input.len(), 4096];
+    tails.iter().map(|&tail| [input.clone(), vec![0; tail]].concat()).collect()
+}
+
+#[test]
+#[ignore = "needs FASUNQIR_PROGRAMS"]
+fn sheetcheck() {
+    let mut inputs = odd();
+    for case in cases() {
+        inputs.extend(with_tails([case.sheet, case.trace].concat(), 1024));
+    }
+    let mut random = Random::new(61);
+    for case in 0..300 {
+        let sheet = small(&mut random, case).bytes();
+        let input = [sheet, generate::trace(&mut random, 2, 4).bytes()].concat();
+        inputs.push(if case % 3 == 0 { damaged(&mut random, &input) } else { input });
+    }
+    let mut tally = Tally::default();
+    for input in &inputs {
+        assert_eq!(written("sheetcheck", input), program::line(input).as_bytes(), "{}", hex(input));
+        tally.count(&program::verdict(input));
+    }
+    tally.demand("sheetcheck", [30, 25, 60, 100, 0, 0]);
+}
+
+#[test]
+#[ignore = "needs FASUNQIR_PROGRAMS"]
+fn sheettable() {
+    let mut random = Random::new(62);
+    let mut inputs = odd();
+    inputs.extend((1..6).map(|length| vec![1; length]));
+    for case in cases() {
+        for node in 0..4 {
+            let fields = [0, node, 0, random.below(2) as u8, 0];
+            inputs.extend(with_tails([&fields, &case.sheet[..], &case.trace].concat(), 1029));
+        }
+    }
+    for case in 0..300 {
+        let sheet = small(&mut random, case);
+        let node = random.below(sheet.nodes.len() + 1) as u16;
+        let cycles = [0; 3].map(|_| random.below(5) as u8);
+        let trace = generate::trace(&mut random, 2, 4).bytes();
+        let input = [&node.to_be_bytes()[..], &cycles, &sheet.bytes(), &trace].concat();
+        inputs.push(if case % 3 == 0 { damaged(&mut random, &input) } else { input });
+    }
+    let (mut tables, mut numbers) = (0, [0; 18]);
+    for input in &inputs {
+        let page = program::page(input);
+        let text = page.as_ref().unwrap_or_else(|line| line);
+        assert_eq!(written("sheettable", input), text.as_bytes(), "{}", hex(input));
+        match page {
+            Ok(_) => tables += 1,
+            Err(line) => numbers[line["REFUSED ".len()..].trim().parse::<usize>().unwrap()] += 1,
+        }
+    }
+    compare::report(format!("sheettable: {tables} tables, refusals {:?}", &numbers[1..]));
+    let seldom = [1, 6, 10, 16, 17].iter().any(|&number| numbers[number] < 10);
+    assert!(tables >= 120 && !seldom, "tables or refusals came too seldom");
+}
+
+#[test]
+#[ignore = "needs FASUNQIR_PROGRAMS"]
+fn sheetformula() {
+    let mut random = Random::new(63);
+    let mut inputs = odd();
+    for case in cases() {
+        inputs.push([&case.sheet[..], &[0]].concat());
+        inputs.push([&case.sheet[..], &[0; 4096]].concat());
+        inputs.push(case.sheet);
+    }
+    for case in 0..300 {
+        let sheet = small(&mut random, case).bytes();
+        inputs.push(if case % 3 == 0 { damaged(&mut random, &sheet) } else { sheet });
+    }
+    let mut tally = Tally::default();
+    for input in &inputs {
+        let bytes = written("sheetformula", input);
+        let source = match program::sheet(input) {
+            Ok(source) => source,
+            Err(line) => {
+                assert_eq!(bytes, line.as_bytes(), "{}", hex(input));
+                tally.refused += 1;
+                continue;
+            }
+        };
+        let formula = formula::formula(&bytes, &source)
+            .unwrap_or_else(|wrong| panic!("{wrong}\nformula {}\n{}", hex(&bytes), hex(input)));
+        tally.formulas += 1;
+        let cycles = random.between(1, [5, 5, 4, 3][source.names]);
+        let trace = generate::trace(&mut random, source.signals, cycles);
+        let translated = Translated { sheet: input.clone(), source, formula };
+        tally.evaluated(translated.agrees(&trace.cycles));
+    }
+    tally.demand("sheetformula", [0, 0, 0, 90, 70, 50]);
+}
