@@ -178,16 +178,16 @@ fn most_nodes() {
         [28, 0, 0, 1, 0, 0],
     ];
     for node in drawings {
-        for kind in 1..=6 {
+        for clause_type in 1..=6 {
             for role in 0..2 {
                 let mut sheet = Sheet::new(1, 3);
                 sheet.nodes = vec![node; 64];
-                let parts = [1, 2, 1, 2, 3, 3][kind as usize - 1];
-                let mut clause = [kind, role, 0, 63, 0, 62, 0, 61, 7, 7, 7];
+                let parts = [1, 2, 1, 2, 3, 3][clause_type as usize - 1];
+                let mut clause = [clause_type, role, 0, 63, 0, 62, 0, 61, 7, 7, 7];
                 clause[2 + 2 * parts..8].fill(0);
                 clause[8 + parts..].fill(0);
                 sheet.clauses = vec![clause; 8];
-                let mut random = Random::new(32 + kind as u64);
+                let mut random = Random::new(32 + clause_type as u64);
                 for cycles in 1..=3 {
                     one(&mut random, &mut tally, &sheet, cycles);
                 }

@@ -8,6 +8,7 @@ use native.Mathlib.Omega.{arith}
 use borrow.Author.Tests.{eqb-true, eqb-false}
 use lib.Dec.{eqb, leb}
 use lib.ListN.{length}
+use Rattle.stored.specs.Layout.{leastWords}
 use Rattle.semantics.specs.Cycles.{firstBelow}
 use Rattle.semantics.specs.Proposition.{Trace}
 use Rattle.semantics.specs.Clause.{assumption, commitment, Clause, breaks}
@@ -45,7 +46,7 @@ unfolding tableAnswer answerFor tableRefusal wordsRefusal nodeRefusal nodeRules 
 table-small s t node p0 p1 p2 words =
     or-small _ _ (lowest-small 1 (sheetRules s) (omega arith) (omega arith))
     (or-small _ _ (lowest-small 10 (traceRules (headerOf s .signals) t) (omega arith) (omega arith))
-    (or-small _ _ (lowest-small 15 (leb 4096 (length words) ∷ []) (omega arith) (omega arith))
+    (or-small _ _ (lowest-small 15 (leb leastWords (length words) ∷ []) (omega arith) (omega arith))
     (lowest-small 16 (nodeRules (nodesOf s) (headerOf s .nodes) (cycleCount t) (headerOf s .names) node p0 p1 p2) (omega arith) (omega arith))))
 
 -- ---- a verdict's numbers
@@ -104,7 +105,7 @@ unfolding checkRefusal wordsRefusal sheetRefusal sheetRules traceRefusal traceRu
 refusal-small s t words =
     or-small _ _ (lowest-small 1 (sheetRules s) (omega arith) (omega arith))
     (or-small _ _ (lowest-small 10 (traceRules (headerOf s .signals) t) (omega arith) (omega arith))
-    (lowest-small 15 (leb 4096 (length words) ∷ []) (omega arith) (omega arith)))
+    (lowest-small 15 (leb leastWords (length words) ∷ []) (omega arith) (omega arith)))
 
 accepted-small : (s t words : List ℕ) → checkRefusal s t words ≡ 0 → Small (told (verdict (clausesOf s) (cyclesOf t)))
 unfolding checkRefusal clausesOf

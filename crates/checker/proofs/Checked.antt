@@ -7,6 +7,7 @@ use mathlib.Core.Path.{_≡_, refl, sym, ap, _∙_}
 use lib.Dec.{eqb}
 use lib.ListN.{length, replicate}
 use borrow.Author.Tests.{le-leb, lt-leb}
+use Rattle.stored.specs.Layout.{leastWords}
 use Rattle.semantics.specs.Proposition.{Trace}
 use Rattle.semantics.specs.Clause.{Clause}
 use Rattle.semantics.specs.Verdict.{verdict}
@@ -26,7 +27,7 @@ use Rattle.stored.specs.Sheet.{headerOf, nodePart, clausePart, nodesOf, storedO
 use Rattle.stored.specs.Trace.{cyclesOf, traceRefusal, traceAnswer, traceNumber}
 use Rattle.stored.specs.Tree.{pick}
 use Rattle.stored.proofs.Tree.{Earlier}
-use Rattle.stored.proofs.Accepted.{Opened, ClauseKept, clauses-kept, accepted-fits, kind-cases, mask-small, open-answer, answer-accepted, cycles-accepted, answer-refused, cycles-refused, length-clauses}
+use Rattle.stored.proofs.Accepted.{Opened, ClauseKept, clauses-kept, accepted-fits, type-cases, mask-small, open-answer, answer-accepted, cycles-accepted, answer-refused, cycles-refused, length-clauses}
 use Rattle.checker.specs.declared.check.Answer.{Answer}
 use Rattle.checker.specs.declared.check.Answer.the-variants.{Refused}
 use Rattle.checker.specs.Table.{orElse, wordsRefusal, wordsAfter}
@@ -91,16 +92,16 @@ module _ (s t words : List ℕ) where
       unfolding orElse
       at-words = at-trace ∙ rw no-trace
 
-      pub check-words : length words < 4096 → Answered (Refused 15) words
+      pub check-words : length words < leastWords → Answered (Refused 15) words
       unfolding wordsRefusal lowest
-      check-words l = refused-as 15 (sym (at-words ∙ rw (lt-leb 4096 (length words) l))) refl
+      check-words l = refused-as 15 (sym (at-words ∙ rw (lt-leb leastWords (length words) l))) refl
 
-      pub check-verdict : (nodes clauses columns after : List ℕ) (v : Answer) → 4096 ≤ length words → nodes ≡ nodePart s → clauses ≡ clausePart s
+      pub check-verdict : (nodes clauses columns after : List ℕ) (v : Answer) → leastWords ≤ length words → nodes ≡ nodePart s → clauses ≡ clausePart s
           → columns ≡ columnsOf (h .signals) n t → v ≡ told (verdict (inOrder (h .clauses) (clauseAt nodes clauses)) (traceOf n columns)) → after ≡ replicate (length words) 0
           → Answered v after
       unfolding wordsRefusal lowest clausesOf clauseIn nodesOf storedOf clauseAt
       check-verdict nodes clauses columns after v l en ec er ev ew =
-          answered-as v after (at-words ∙ rw (le-leb 4096 (length words) l))
+          answered-as v after (at-words ∙ rw (le-leb leastWords (length words) l))
           (ev
           ∙ ap (λ (σ : Trace). told (verdict (inOrder (h .clauses) (λ k. clauseOf (nodeAt nodes) (storedAt clauses k))) σ)) (told-accepted s t h n accepted cycled columns er)
           ∙ ap (λ (x : List ℕ). told (verdict (inOrder (h .clauses) (λ k. clauseOf (nodeAt x) (storedAt clauses k))) (cyclesOf t))) en
@@ -116,14 +117,14 @@ formula-at s e = record { below = e .less; sort = e .sorted }
 task-formulas : (s : List ℕ) (d : StoredClause) → ClauseKept (nodesOf s) (headerOf s .nodes) (headerOf s .names) d → Formulas (nodePart s) (headerOf s .nodes) (taskOf d)
 unfolding taskOf partsUsed
 task-formulas s d k =
-    kind-cases (λ n. d .kind ≡ n → Formulas (nodePart s) (headerOf s .nodes) (taskOf d))
+    type-cases (λ n. d .«clause_type» ≡ n → Formulas (nodePart s) (headerOf s .nodes) (taskOf d))
     (λ e. record { premise = rw e (formula-at s (k .part1 .root-found (rw e))); third = rw e (formula-at s (k .part1 .root-found (rw e))); reply = rw e (formula-at s (k .part1 .root-found (rw e))) })
     (λ e. record { premise = rw e (formula-at s (k .part2 .root-found (rw e))); third = rw e (formula-at s (k .part1 .root-found (rw e))); reply = rw e (formula-at s (k .part1 .root-found (rw e))) })
     (λ e. record { premise = rw e (formula-at s (k .part1 .root-found (rw e))); third = rw e (formula-at s (k .part1 .root-found (rw e))); reply = rw e (formula-at s (k .part1 .root-found (rw e))) })
     (λ e. record { premise = rw e (formula-at s (k .part1 .root-found (rw e))); third = rw e (formula-at s (k .part1 .root-found (rw e))); reply = rw e (formula-at s (k .part2 .root-found (rw e))) })
     (λ e. record { premise = rw e (formula-at s (k .part1 .root-found (rw e))); third = rw e (formula-at s (k .part3 .root-found (rw e))); reply = rw e (formula-at s (k .part2 .root-found (rw e))) })
     (λ e. record { premise = rw e (formula-at s (k .part1 .root-found (rw e))); third = rw e (formula-at s (k .part3 .root-found (rw e))); reply = rw e (formula-at s (k .part2 .root-found (rw e))) })
-    (d .kind) (k .kind-least) (k .kind-most) refl
+    (d .«clause_type») (k .type-least) (k .type-most) refl
 
 fits-at : (n : ℕ) (f : ℕ → Clause) → allFit (inOrder n f) ≡ true → (k : ℕ) → k < n → clauseFits (f k) ≡ true
 unfolding allFit inOrder
@@ -140,8 +141,8 @@ sound-of s o k l =
     let kept = clauses-kept s o k l in
     let few = o .in-range .few-names in
     record {
-      kind-least = kept .kind-least;
-      kind-most = kept .kind-most;
+      type-least = kept .type-least;
+      type-most = kept .type-most;
       role-most = kept .role-most;
       first-mask = mask-fits (headerOf s .names) (storedOf s k .mask1) few (kept .part1 .small);
       second-mask = mask-fits (headerOf s .names) (storedOf s k .mask2) few (kept .part2 .small);

@@ -87,7 +87,7 @@ module _ {nodes reach columns words : List ℕ} {count n : ℕ} (l : Laid nodes 
         let some = l .ready .given .some-cycles in
         let long = told-length n columns in
         task-least (nodeAt nodes) d (traceOf n columns) (n - 1) places r (record { first = s .first-mask; second = s .second-mask; third = s .third-mask })
-        (s .kind-least) (s .kind-most) (s .fits) (omega arith)
+        (s .type-least) (s .type-most) (s .fits) (omega arith)
         (subst
         (λ (m : ℕ). IsLeast places (λ y. somePlacement noNames (bit (taskOf d .quantified)) 0 (n - 1) (standing (0 ∷ 0 ∷ 0 ∷ [])) (λ ν. numbered m (missedTask (nodeAt nodes) (taskOf d) (traceOf n columns) (n - 1) ν) y)) r)
         (sym long)

@@ -7,6 +7,7 @@ use native.Mathlib.Omega.{arith}
 use borrow.Author.Tests.{ltb-true, ltb-false}
 use lib.Dec.{ltb}
 use lib.ListN.{length}
+use Rattle.stored.specs.Layout.{leastWords}
 use Rattle.stored.specs.declared.Header.{Header}
 use Rattle.stored.specs.declared.SheetAnswer.the-variants.{Accepted}
 use Rattle.stored.specs.declared.TraceAnswer.the-variants.{Cycles}
@@ -34,7 +35,7 @@ use Rattle.tables.proofs.Moves.{table-placed}
 use Rattle.checker.specs.Table.{tableOf}
 
 module _ (s t : List ℕ) (o : Opened s) (r : TraceOpened (headerOf s .signals) t) where
-  pub given-opened : (words : List ℕ) → 4096 ≤ length words
+  pub given-opened : (words : List ℕ) → leastWords ≤ length words
       → Given (nodePart s) (headerOf s .nodes) (cycleCount t) (columnsOf (headerOf s .signals) (cycleCount t) t) words
   unfolding nodesOf nodeRight
   given-opened words l =
@@ -83,7 +84,7 @@ module _ (s t : List ℕ) (h : Header) (n : ℕ) (accepted : sheetAnswer s ≡ A
   few-cycles = subst (λ (k : ℕ). k ≤ 64) many (trace-is .few-cycles)
 
   module _ (columns : List ℕ) (read : columns ≡ columnsOf (h .signals) n t) where
-    pub given-accepted : (nodes words : List ℕ) → 4096 ≤ length words → nodes ≡ nodePart s → Given nodes (h .nodes) n columns words
+    pub given-accepted : (nodes words : List ℕ) → leastWords ≤ length words → nodes ≡ nodePart s → Given nodes (h .nodes) n columns words
     given-accepted nodes words l e =
         subst (λ (w : List ℕ). Given w (h .nodes) n columns words) (sym e)
         (subst (λ (w : List ℕ). Given (nodePart s) (h .nodes) n w words) (sym read)

@@ -7,6 +7,7 @@ use native.Mathlib.Omega.{arith}
 use borrow.Author.Tests.{eqb-true, eq-eqb, ltb-true, le-leb, lt-leb}
 use lib.Dec.{ltb, eqb}
 use lib.ListN.{length, replicate}
+use Rattle.stored.specs.Layout.{leastWords}
 use Rattle.semantics.proofs.Tests.{and-left, and-right}
 use Rattle.stored.specs.declared.Node.{Node}
 use Rattle.stored.specs.declared.SheetAnswer.{SheetAnswer}
@@ -97,13 +98,13 @@ names-inside m n p0 p1 p2 l h = record { stands = stands }
     stands (suc (suc zero)) k = heeded-inside m n 2 p2 l (and-right (namePlaced m n 1 p1) (namePlaced m n 2 p2) (and-right (namePlaced m n 0 p0) _ h))
     stands (suc (suc (suc u))) k = absurd (omega arith)
 
-words-few : (words : List ℕ) → length words < 4096 → wordsRefusal words ≡ 15
+words-few : (words : List ℕ) → length words < leastWords → wordsRefusal words ≡ 15
 unfolding wordsRefusal lowest
-words-few words l = rw (lt-leb 4096 (length words) l)
+words-few words l = rw (lt-leb leastWords (length words) l)
 
-words-many : (words : List ℕ) → 4096 ≤ length words → wordsRefusal words ≡ 0
+words-many : (words : List ℕ) → leastWords ≤ length words → wordsRefusal words ≡ 0
 unfolding wordsRefusal lowest
-words-many words l = rw (le-leb 4096 (length words) l)
+words-many words l = rw (le-leb leastWords (length words) l)
 
 -- the whole order
 module _ (s t : List ℕ) (node p0 p1 p2 : ℕ) (words : List ℕ) where
@@ -127,7 +128,7 @@ module _ (s t : List ℕ) (node p0 p1 p2 : ℕ) (words : List ℕ) where
   by-trace number a e f =
       by-number number (traceRefusal (headerOf s .signals) t) (or-second (sheetRefusal s) _ a ∙ or-first (traceRefusal (headerOf s .signals) t) _ f) e f
 
-  pub by-words : sheetRefusal s ≡ 0 → traceRefusal (headerOf s .signals) t ≡ 0 → length words < 4096 → Refuses 15
+  pub by-words : sheetRefusal s ≡ 0 → traceRefusal (headerOf s .signals) t ≡ 0 → length words < leastWords → Refuses 15
   unfolding tableRefusal
   by-words a b l =
       let few = words-few words l in
@@ -136,7 +137,7 @@ module _ (s t : List ℕ) (node p0 p1 p2 : ℕ) (words : List ℕ) where
       (or-second (sheetRefusal s) _ a ∙ or-second (traceRefusal (headerOf s .signals) t) _ b ∙ or-first (wordsRefusal words) _ refused)
       (sym few) refused
 
-  pub by-node : sheetRefusal s ≡ 0 → traceRefusal (headerOf s .signals) t ≡ 0 → 4096 ≤ length words
+  pub by-node : sheetRefusal s ≡ 0 → traceRefusal (headerOf s .signals) t ≡ 0 → leastWords ≤ length words
       → nodeRefusal (nodesOf s) (headerOf s .nodes) (cycleCount t) (headerOf s .names) node p0 p1 p2 ≡ tableRefusal s t node p0 p1 p2 words
   unfolding tableRefusal
   by-node a b l =

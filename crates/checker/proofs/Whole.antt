@@ -3,6 +3,7 @@ use Prim.Native.Nat.{ℕ, _≤_, _<_}
 use mathlib.Core.List.{List}
 use mathlib.Core.Path.{_≡_, sym, _∙_, ap}
 use lib.ListN.{length}
+use Rattle.stored.specs.Layout.{leastWords}
 use Rattle.stored.specs.declared.Header.{Header}
 use Rattle.stored.specs.declared.SheetAnswer.{SheetAnswer}
 use Rattle.stored.specs.declared.SheetAnswer.the-variants.{Accepted}
@@ -46,7 +47,7 @@ module _ (s t : List ℕ) (node p0 p1 p2 : ℕ) (words : List ℕ) where
     many : cycleCount t ≡ n
     many = cycles-accepted (headerOf s .signals) t n (cycled-as s t h n accepted cycled) .1
 
-    pub words-refuse : length words < 4096 → Refuses s t node p0 p1 p2 words 15
+    pub words-refuse : length words < leastWords → Refuses s t node p0 p1 p2 words 15
     words-refuse l = by-words s t node p0 p1 p2 words none-sheet none-trace l
 
     -- the answer over the parts is the answer over the sheet
@@ -58,7 +59,7 @@ module _ (s t : List ℕ) (node p0 p1 p2 : ℕ) (words : List ℕ) where
     After : List ℕ → ℕ → Header → List ℕ
     After w k g = wordsAfter (nodeRefusal (nodeAt w) (g .nodes) k (g .names) node p0 p1 p2) words
 
-    pub table-whole : (nodes columns new : List ℕ) (answer : TableAnswer) → 4096 ≤ length words → nodes ≡ nodePart s → columns ≡ columnsOf (h .signals) n t
+    pub table-whole : (nodes columns new : List ℕ) (answer : TableAnswer) → leastWords ≤ length words → nodes ≡ nodePart s → columns ≡ columnsOf (h .signals) n t
         → answer ≡ answerFor (nodeRefusal (nodeAt nodes) (h .nodes) n (h .names) node p0 p1 p2) (tableOf (nodeAt nodes) (traceOf n columns) node (placementOf (h .names) p0 p1 p2))
         → new ≡ wordsAfter (nodeRefusal (nodeAt nodes) (h .nodes) n (h .names) node p0 p1 p2) words
         → (answer ≡ tableAnswer s t node p0 p1 p2 words) × (new ≡ wordsAfter (tableRefusal s t node p0 p1 p2 words) words)

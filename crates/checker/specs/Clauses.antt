@@ -10,7 +10,8 @@ use Rattle.semantics.specs.Reach.{clauseFits}
 use Rattle.semantics.specs.Verdict.{failsAs}
 use Rattle.stored.specs.declared.StoredClause.{StoredClause}
 use Rattle.stored.specs.Node.{nodeAt}
-use Rattle.stored.specs.Clause.{storedAt, clauseOf}
+use Rattle.stored.specs.Layout.{clauseSize, mostClauses}
+use Rattle.stored.specs.Clause.{lastRole, storedAt, clauseOf}
 use Rattle.places.specs.Places.{places, numbered, IsLeast}
 use Rattle.places.specs.Task.{taskOf}
 use Rattle.places.specs.Laid.{Formulas}
@@ -20,9 +21,9 @@ use Rattle.checker.specs.declared.check.Failing.the-variants.{At, Nothin
 
 -- a stored clause that the check takes
 pub record Sound (nodes : List ℕ) (count : ℕ) (d : StoredClause) : Type 0 where
-  pub kind-least : 1 ≤ d .kind
-  pub kind-most : d .kind ≤ 6
-  pub role-most : d .role ≤ 1
+  pub type-least : 1 ≤ d .«clause_type»
+  pub type-most : d .«clause_type» ≤ 6
+  pub role-most : d .role ≤ lastRole
   pub first-mask : d .mask1 < 2 ^ 64
   pub second-mask : d .mask2 < 2 ^ 64
   pub third-mask : d .mask3 < 2 ^ 64
@@ -31,8 +32,8 @@ pub record Sound (nodes : List ℕ) (count : ℕ) (d : StoredClause) : Type 0 wh
 
 -- c stored clauses that the check takes
 pub record Sounds (nodes : List ℕ) (count : ℕ) (clauses : List ℕ) (c : ℕ) : Type 0 where
-  pub few : c ≤ 8
-  pub long : 11 * c ≤ length clauses
+  pub few : c ≤ mostClauses
+  pub long : clauseSize * c ≤ length clauses
   pub sound : (k : ℕ) → k < c → Sound nodes count (storedAt clauses k)
 
 -- clause k of stored nodes and clauses

@@ -10,6 +10,7 @@ use Rattle.semantics.specs.Placement.{Placement, marks}
 use Rattle.rows.specs.Row.{row}
 use Rattle.stored.specs.declared.Node.{Node}
 use Rattle.stored.specs.Bytes.{inOrder, lowest}
+use Rattle.stored.specs.Layout.{leastWords}
 use Rattle.stored.specs.Node.{requirementSorts, isFormulaNode}
 use Rattle.stored.specs.Sheet.{headerOf, nodesOf, sheetRefusal}
 use Rattle.stored.specs.Trace.{cycleCount, cyclesOf, traceRefusal}
@@ -48,7 +49,7 @@ orElse first second = cond (eqb first 0) second first
 
 -- 15. The lent words are 4,096 or more.
 unfoldable pub wordsRefusal : List ℕ → ℕ
-wordsRefusal words = lowest 15 (leb 4096 (length words) ∷ [])
+wordsRefusal words = lowest 15 (leb leastWords (length words) ∷ [])
 
 -- the lowest number that applies, or 0
 unfoldable pub tableRefusal : List ℕ → List ℕ → ℕ → ℕ → ℕ → ℕ → List ℕ → ℕ

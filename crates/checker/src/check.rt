@@ -7,7 +7,10 @@ use places::walk::walk;
 use stored::SheetAnswer;
 use stored::StoredClause;
 use stored::TraceAnswer;
+use stored::clauses::ASSUMPTION;
+use stored::clauses::COMMITMENT;
 use stored::clauses::stored_at;
+use stored::layout::LEAST_WORDS;
 use stored::masks::reach_table;
 use stored::sheet::clause_part;
 use stored::sheet::node_part;
@@ -24,7 +27,7 @@ ghost use lib.ListN.{length, replicate};
 ghost use Rattle.semantics.specs.Clause.{breaks};
 ghost use Rattle.stored.specs.Node.{nodeAt};
 ghost use Rattle.stored.specs.Bytes.{inOrder};
-ghost use Rattle.stored.specs.Clause.{clauseOf, roleOf};
+ghost use Rattle.stored.specs.Clause.{lastRole, clauseOf, roleOf};
 ghost use Rattle.stored.specs.Columns.{traceOf};
 ghost use Rattle.semantics.specs.Verdict.{verdict};
 ghost use Rattle.tables.specs.Ready.{Given};
@@ -106,7 +109,7 @@ fn role_place(
     rows: &mut [u64],
 ) -> usize
     requires { ⌜ Laid (now nodes) (sizes .nodes) (sizes .cycles) (now reach) (traceOf (sizes .cycles) (now columns)) (now columns) (now words) ⌝ }
-    requires { ⌜ (role ≤ 1) × Sound (now nodes) (sizes .nodes) d × (length (now rows) ≡ 64) ⌝ }
+    requires { ⌜ (role ≤ lastRole) × Sound (now nodes) (sizes .nodes) d × (length (now rows) ≡ 64) ⌝ }
     ensures { λ r. ⌜ Laid (now (nodes .entry)) (sizes .nodes) (sizes .cycles) (now (reach .entry)) (traceOf (sizes .cycles) (now (columns .entry))) (now (columns .exit)) (now (words .exit)) ⌝ }
     ensures { λ r. ⌜ length (now (rows .exit)) ≡ 64 ⌝ }
     ensures { λ r. ⌜ PlaceIs (roleOf role) (clauseOf (nodeAt (now (nodes .entry))) d) (traceOf (sizes .cycles) (now (columns .entry))) r ⌝ }
@@ -129,7 +132,7 @@ fn first_failing(
     rows: &mut [u64],
 ) -> Failing
     requires { ⌜ Laid (now nodes) (sizes .nodes) (sizes .cycles) (now reach) (traceOf (sizes .cycles) (now columns)) (now columns) (now words) ⌝ }
-    requires { ⌜ (role ≤ 1) × Sounds (now nodes) (sizes .nodes) (now clauses) (sizes .clauses) × (length (now rows) ≡ 64) ⌝ }
+    requires { ⌜ (role ≤ lastRole) × Sounds (now nodes) (sizes .nodes) (now clauses) (sizes .clauses) × (length (now rows) ≡ 64) ⌝ }
     ensures { λ r. ⌜ Laid (now (nodes .entry)) (sizes .nodes) (sizes .cycles) (now (reach .entry)) (traceOf (sizes .cycles) (now (columns .entry))) (now (columns .exit)) (now (words .exit)) ⌝ }
     ensures { λ r. ⌜ length (now (rows .exit)) ≡ 64 ⌝ }
     ensures { λ r. ⌜ FailingIs (roleOf role) (clauseAt (now (nodes .entry)) (now (clauses .entry))) (sizes .clauses) (traceOf (sizes .cycles) (now (columns .entry))) r ⌝ }
@@ -173,11 +176,29 @@ fn verdict_over(
     requires { ⌜ Sounds (now nodes) (sizes .nodes) (now clauses) (sizes .clauses) × (length (now rows) ≡ 64) ⌝ }
     ensures { λ r. ⌜ r ≡ told (verdict (inOrder (sizes .clauses) (clauseAt (now (nodes .entry)) (now (clauses .entry)))) (traceOf (sizes .cycles) (now (columns .entry)))) ⌝ }
 {
-    let assumption = first_failing(0, clauses, sizes, nodes, reach, columns, words, rows);
+    let assumption = first_failing(
+        ASSUMPTION,
+        clauses,
+        sizes,
+        nodes,
+        reach,
+        columns,
+        words,
+        rows,
+    );
     match assumption {
         Failing::At(clause, _) => Answer::Excused(clause),
         Failing::Nothing => {
-            let commitment = first_failing(1, clauses, sizes, nodes, reach, columns, words, rows);
+            let commitment = first_failing(
+                COMMITMENT,
+                clauses,
+                sizes,
+                nodes,
+                reach,
+                columns,
+                words,
+                rows,
+            );
             match commitment {
                 Failing::At(clause, number) => Answer::Broken(place_of(clause, number)),
                 Failing::Nothing => Answer::Holds,
@@ -221,7 +242,7 @@ pub fn check(sheet: &[u8], trace: &[u8], words: &mut [u64]) -> Answer
     let TraceAnswer::Cycles(n) = trace_answer else {
         return Answer::Refused(trace_number(trace_answer));
     };
-    if words.len() < 4096 {
+    if words.len() < LEAST_WORDS {
         return Answer::Refused(15);
     }
     let nodes = node_part(sheet, h);

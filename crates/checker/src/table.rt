@@ -12,6 +12,7 @@ ghost use Rattle.tables.specs.Ready.{Given};
 ghost use Rattle.checker.specs.Table.{namePlaced, namesPlaced, heeded, placementOf, tableOf, nodeRefusal, answerFor, refusedWith, wordsAfter, tableAnswer, tableRefusal};
 use stored::SheetAnswer;
 use stored::TraceAnswer;
+use stored::layout::LEAST_WORDS;
 use stored::nodes::is_formula_node;
 use stored::sheet::node_part;
 use stored::sheet::read_sheet;
@@ -156,7 +157,7 @@ pub fn table(
     let TraceAnswer::Cycles(n) = trace_answer else {
         return refused(trace_number(trace_answer));
     };
-    if words.len() < 4096 {
+    if words.len() < LEAST_WORDS {
         return refused(15);
     }
     let nodes = node_part(sheet, h);

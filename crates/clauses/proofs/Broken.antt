@@ -9,16 +9,16 @@ use Rattle.semantics.specs.Formula.{Formula}
 use Rattle.semantics.specs.Placement.{Names, noNames, union}
 use Rattle.semantics.specs.Clause.{pref}
 use Rattle.semantics.specs.Translation.{shortestOf, unansweredOf, brokenOf}
-use Rattle.stored.specs.Clause.{partsUsed, kindOf}
+use Rattle.stored.specs.Clause.{partsUsed, typeOf}
 use Rattle.stored.specs.Sheet.{headerOf}
-use Rattle.stored.proofs.Accepted.{kind-cases}
+use Rattle.stored.proofs.Accepted.{type-cases}
 use Rattle.emission.specs.Emission.{Ready}
 use Rattle.emission.proofs.Plans.{Tells, tells-within, everywhere-told, longer-told, chop-told, and-told, not-told}
 use Rattle.clauses.proofs.Names.{Inside, union-inside, placed-told, once-placed-told}
 
 -- a number that is no type's stands for type 1
-pub pref-is : (k : ℕ) → (k ≡ 2 → ⊥) → (k ≡ 3 → ⊥) → (k ≡ 4 → ⊥) → (k ≡ 5 → ⊥) → (k ≡ 6 → ⊥) → kindOf k ≡ pref
-unfolding kindOf
+pub pref-is : (k : ℕ) → (k ≡ 2 → ⊥) → (k ≡ 3 → ⊥) → (k ≡ 4 → ⊥) → (k ≡ 5 → ⊥) → (k ≡ 6 → ⊥) → typeOf k ≡ pref
+unfolding typeOf
 pref-is zero h₂ h₃ h₄ h₅ h₆ = refl
 pref-is (suc zero) h₂ h₃ h₄ h₅ h₆ = refl
 pref-is (suc (suc zero)) h₂ h₃ h₄ h₅ h₆ = absurd (h₂ refl)
@@ -41,14 +41,14 @@ module _ {y : List ℕ} (ready : Ready y) (p₁ p₂ p₃ f₁ f₂ f₃ : Formu
   abbrev BrokenTold : ℕ → Type 0
   BrokenTold k =
       (ltb 0 (partsUsed k) ≡ true → Tells y p₁ f₁ 0) → (ltb 1 (partsUsed k) ≡ true → Tells y p₂ f₂ 0) → (ltb 2 (partsUsed k) ≡ true → Tells y p₃ f₃ 0)
-      → Tells y (brokenOf (kindOf k) p₁ Θ₁ p₂ Θ₂ p₃ Θ₃) (brokenOf (kindOf k) f₁ Θ₁ f₂ Θ₂ f₃ Θ₃) (10 + 6 * headerOf y .names)
+      → Tells y (brokenOf (typeOf k) p₁ Θ₁ p₂ Θ₂ p₃ Θ₃) (brokenOf (typeOf k) f₁ Θ₁ f₂ Θ₂ f₃ Θ₃) (10 + 6 * headerOf y .names)
 
   pub broken-told : (k : ℕ) → 1 ≤ k → k ≤ 6 → BrokenTold k
-  unfolding partsUsed kindOf brokenOf
+  unfolding partsUsed typeOf brokenOf
   broken-told =
       let rest = everywhere-told ready in
       let both = union-inside in₁ in₃ in
-      kind-cases BrokenTold
+      type-cases BrokenTold
       (λ t₁ t₂ t₃. tells-within _ (omega arith) (chop-told (not-told (placed-told ready noNames Θ₁ in₁ (t₁ refl))) rest))
       (λ t₁ t₂ t₃.
       let missed = not-told (chop-told (placed-told ready Θ₂ Θ₁ in₁ (t₁ refl)) rest) in

@@ -59,7 +59,7 @@ module _ {y : List ℕ} (map : List ℕ) (x : ℕ → Node) (n : ℕ) (d : Store
       (undrawn (formulaAt x (d .root1))) (undrawn (formulaAt x (d .root2))) (undrawn (formulaAt x (d .root3)))
       (bit (d .mask1)) (bit (d .mask2)) (bit (d .mask3))
       (mask-inside m (d .mask1) (kept .part1 .small)) (mask-inside m (d .mask2) (kept .part2 .small)) (mask-inside m (d .mask3) (kept .part3 .small))
-      (d .kind) (kept .kind-least) (kept .kind-most)
+      (d .«clause_type») (kept .type-least) (kept .type-most)
       (part-told _ (d .root1) (d .mask1) (kept .part1))
       (part-told _ (d .root2) (d .mask2) (kept .part2))
       (part-told _ (d .root3) (d .mask3) (kept .part3))

@@ -10,23 +10,24 @@ use Rattle.semantics.specs.Clause.{Clause}
 use Rattle.semantics.specs.Translation.{brokenOf}
 use Rattle.stored.specs.declared.StoredClause.{StoredClause}
 use Rattle.stored.specs.Bytes.{inOrder}
+use Rattle.stored.specs.Layout.{clauseSize, mostClauses}
 use Rattle.stored.specs.Node.{nodeAt}
 use Rattle.stored.specs.Reach.{entryOf}
-use Rattle.stored.specs.Clause.{storedAt, clauseRight, clauseNamed, kindOf, clauseOf}
+use Rattle.stored.specs.Clause.{storedAt, clauseRight, clauseNamed, typeOf, clauseOf}
 use Rattle.stored.specs.Sheet.{headerOf}
 use Rattle.emission.specs.Copying.{copyCosts}
 
 -- the clauses of a sheet that rules 8 and 9 take
 pub record ClausesIn (y : List ℕ) (nodes : List ℕ) (n : ℕ) (clauses : List ℕ) (c : ℕ) : Type 0 where
-  pub few : c ≤ 8
-  pub inside : 11 * c ≤ length clauses
+  pub few : c ≤ mostClauses
+  pub inside : clauseSize * c ≤ length clauses
   pub right : (k : ℕ) → k < c → clauseRight (nodeAt nodes) n (storedAt clauses k) ≡ true
   pub named : (k : ℕ) → k < c → clauseNamed (nodeAt nodes) (headerOf y .names) (storedAt clauses k) ≡ true
 
 -- the plan of a clause, over the copies: "it is broken"
 unfoldable pub brokenIn : List ℕ → StoredClause → Formula
 brokenIn map d =
-    brokenOf (kindOf (d .kind))
+    brokenOf (typeOf (d .«clause_type»))
     (at (entryOf map (d .root1))) (bit (d .mask1))
     (at (entryOf map (d .root2))) (bit (d .mask2))
     (at (entryOf map (d .root3))) (bit (d .mask3))

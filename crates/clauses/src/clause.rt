@@ -8,7 +8,7 @@ ghost use Rattle.semantics.specs.Proposition.{bit};
 ghost use Rattle.semantics.specs.Formula.{at};
 ghost use Rattle.semantics.specs.Clause.{pref, init, anti, implies, follows, triggers};
 ghost use Rattle.semantics.specs.Translation.{shortestOf, unansweredOf, brokenOf};
-ghost use Rattle.stored.specs.Clause.{kindOf};
+ghost use Rattle.stored.specs.Clause.{typeOf};
 ghost use Rattle.emission.specs.Plan.{Wrote};
 
 fn put_pref(out: &mut [u8], f1: usize, m1: usize) -> usize
@@ -116,9 +116,9 @@ fn put_triggers(
 }
 
 // By the type's number.
-pub fn put_kind(
+pub fn put_typed(
     out: &mut [u8],
-    kind: usize,
+    clause_type: usize,
     f1: usize,
     m1: usize,
     f2: usize,
@@ -127,21 +127,21 @@ pub fn put_kind(
     m3: usize,
 ) -> usize
     requires { ⌜ (m1 < 8) × (m3 < 8) ⌝ }
-    ensures { λ r. ⌜ Wrote (now (out .entry)) (now (out .exit)) r (brokenOf (kindOf kind) (at f1) (bit m1) (at f2) (bit m2) (at f3) (bit m3)) ⌝ }
+    ensures { λ r. ⌜ Wrote (now (out .entry)) (now (out .exit)) r (brokenOf (typeOf «clause_type») (at f1) (bit m1) (at f2) (bit m2) (at f3) (bit m3)) ⌝ }
 {
-    if kind == 2 {
+    if clause_type == 2 {
         return put_init(out, f1, m1, f2, m2);
     }
-    if kind == 3 {
+    if clause_type == 3 {
         return put_anti(out, f1, m1);
     }
-    if kind == 4 {
+    if clause_type == 4 {
         return put_implies(out, f1, m1, f2, m2);
     }
-    if kind == 5 {
+    if clause_type == 5 {
         return put_follows(out, f1, m1, f2, m2, f3, m3);
     }
-    if kind == 6 {
+    if clause_type == 6 {
         return put_triggers(out, f1, m1, f2, m2, f3, m3);
     }
     put_pref(out, f1, m1)

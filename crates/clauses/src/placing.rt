@@ -1,5 +1,6 @@
 // Names placed over a formula.
 use emission::node;
+use stored::masks::has_name;
 ghost use mathlib.Core.Path.{_≡_};
 ghost use Prim.Native.Nat.{_<_};
 ghost use Rattle.semantics.specs.Proposition.{bit};
@@ -8,13 +9,6 @@ ghost use Rattle.semantics.specs.Placement.{noNames};
 ghost use Rattle.semantics.specs.Translation.{placedName, placed, once};
 ghost use Rattle.stored.specs.Reach.{joint};
 ghost use Rattle.emission.specs.Plan.{Wrote};
-
-fn has(mask: usize, u: usize) -> bool
-    requires { ⌜ u < 64 ⌝ }
-    ensures { λ r. ⌜ r ≡ bit mask u ⌝ }
-{
-    (mask >> u) % 2 == 1
-}
 
 // Both sets of names.
 pub fn both(a: usize, b: usize) -> usize
@@ -28,11 +22,11 @@ fn put_name(out: &mut [u8], u: usize, before: usize, names: usize, f: usize) -> 
     requires { ⌜ u < 3 ⌝ }
     ensures { λ r. ⌜ Wrote (now (out .entry)) (now (out .exit)) r (placedName u (bit before) (bit names) (at f)) ⌝ }
 {
-    if !has(names, u) {
+    if !has_name(names, u) {
         return f;
     }
     let marked = node::put_and(out, 4 + 2 * u, f);
-    if has(before, u) {
+    if has_name(before, u) {
         return marked;
     }
     node::put_some(out, u, marked)

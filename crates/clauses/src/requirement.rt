@@ -22,7 +22,7 @@ fn put_clause(out: &mut [u8], map: &[usize], d: StoredClause) -> usize
     let f1 = masks::entry_of(map, d.root1);
     let f2 = masks::entry_of(map, d.root2);
     let f3 = masks::entry_of(map, d.root3);
-    clause::put_kind(out, d.kind, f1, d.mask1, f2, d.mask2, f3, d.mask3)
+    clause::put_typed(out, d.clause_type, f1, d.mask1, f2, d.mask2, f3, d.mask3)
 }
 
 // The node and clause parts of a sheet with n nodes and c clauses; the root is the last node.
@@ -31,7 +31,7 @@ pub fn put_requirement(out: &mut [u8], nodes: &[u8], n: usize, clauses: &[u8], c
     ensures { λ r. ⌜ (Emits (now (out .entry)) (now (out .exit)) r (requirementCost (now (nodes .entry)) n c (headerOf (now (out .entry)) .names)) (translation (clausesAt (now (nodes .entry)) (now (clauses .entry)) c))) × (count (now (out .exit)) ≡ r + 1) ⌝ }
 {
     let map = copy::copy_nodes(out, nodes, n);
-    let mut sides = [shared::NOTHING; 2];
+    let mut sides = [shared::NOTHING; clauses::ROLES];
     let mut k = 0;
     while k < c {
         let d = clauses::stored_at(clauses, k);
@@ -42,8 +42,8 @@ pub fn put_requirement(out: &mut [u8], nodes: &[u8], n: usize, clauses: &[u8], c
         sides[role] = joined;
         k += 1;
     }
-    let assumed = sides[0];
-    let committed = sides[1];
+    let assumed = sides[clauses::ASSUMPTION];
+    let committed = sides[clauses::COMMITMENT];
     let kept = node::put_not(out, committed);
     node::put_or(out, assumed, kept)
 }

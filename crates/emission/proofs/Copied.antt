@@ -24,7 +24,7 @@ use Rattle.stored.specs.Sheet.{headerOf}
 use Rattle.stored.specs.Written.{nodeIn, NodeFits}
 use Rattle.stored.proofs.Rules.{every-number}
 use Rattle.stored.proofs.Tree.{proposition-cases, formula-cases, operands, proposition-law, formula-law}
-use Rattle.emission.specs.Bound.{mostNodes, isDrawing, drawingAt}
+use Rattle.emission.specs.Bound.{mostEmitted, isDrawing, drawingAt}
 use Rattle.emission.specs.Emission.{count, propositionIn, formulaIn, Good, Step, HasProposition, Has, Emits, Ready}
 use Rattle.emission.specs.Copying.{Stands, Mapped, mappedTo, copiedNode, noPropositions, noFormulas, drawingOf, Copied, byOthers, itself, copyCost, copyCosts, NodesIn}
 use Rattle.emission.proofs.Steps.{stay, steps, wider, has-kept, proposition-kept, ready-kept, Addable, Added, put-added}
@@ -156,7 +156,7 @@ no-gap : (n : Node) → isDrawing n ≡ false → n .op ≡ 29 → ⊥
 unfolding isDrawing
 no-gap n e f = true≢false (sym (ap (λ (k : ℕ). leb 27 k && leb k 29) f) ∙ e)
 
-may-copy : {x : ℕ → Node} {y map : List ℕ} (n : Node) → Good y → count y < mostNodes → NodeFits n → isDrawing n ≡ false
+may-copy : {x : ℕ → Node} {y map : List ℕ} (n : Node) → Good y → count y < mostEmitted → NodeFits n → isDrawing n ≡ false
     → fieldsRight requirementSorts (headerOf y .signals) (headerOf y .names) n ≡ true
     → Given x y map (aUse (n .op)) (n .a) → Given x y map (bUse (n .op)) (n .b) → Addable y (copiedNode map n)
 unfolding copiedNode fieldsRight
@@ -374,7 +374,7 @@ gap-is n e a b =
     omega arith
 
 -- ---- node i copied
-copied : {y z map : List ℕ} {r : ℕ} (x : ℕ → Node) (i : ℕ) → Ready y → count y + 12 ≤ mostNodes
+copied : {y z map : List ℕ} {r : ℕ} (x : ℕ → Node) (i : ℕ) → Ready y → count y + 12 ≤ mostEmitted
     → fieldsRight requirementSorts (headerOf y .signals) (headerOf y .names) (x i) ≡ true → operandsRight requirementSorts x i ≡ true
     → Mapped x i y map → Copied map (x i) y z r → (Step y z (copyCost (x i))) × (Stands x i z r)
 unfolding copyCost
@@ -388,7 +388,7 @@ copied {y} {z} x i ready room right kept mapped (itself plain fits put) =
     (subst (λ (b : Bool). Step y z (cond b 12 1)) (sym plain) (new .step), copied-stands kept (some-sort _ _ (x i) right) plain a b new)
 
 -- one turn of the loop over the n nodes of a sheet
-pub copied-next : {x y z map nodes : List ℕ} {n r : ℕ} (i : ℕ) → Ready x → count x + 768 ≤ mostNodes → NodesIn x nodes n → i < n → length map ≡ 64
+pub copied-next : {x y z map nodes : List ℕ} {n r : ℕ} (i : ℕ) → Ready x → count x + 768 ≤ mostEmitted → NodesIn x nodes n → i < n → length map ≡ 64
     → Step x y (copyCosts (nodeAt nodes) i) → Mapped (nodeAt nodes) i y map → Copied map (nodeAt nodes i) y z r
     → (Step x z (copyCosts (nodeAt nodes) (i + 1))) × (Mapped (nodeAt nodes) (i + 1) z (set map i r))
 copied-next {y = y} {map = map} {nodes = nodes} i ready room sheet less long s mapped new =

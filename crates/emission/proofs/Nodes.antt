@@ -14,7 +14,7 @@ use Rattle.stored.specs.Tree.{propositionOp, formulaOp, propositionOf, formulaO
 use Rattle.stored.specs.Sheet.{headerOf}
 use Rattle.stored.specs.Written.{nodeIn}
 use Rattle.stored.proofs.Tree.{proposition-law, formula-law}
-use Rattle.emission.specs.Bound.{mostNodes}
+use Rattle.emission.specs.Bound.{mostEmitted}
 use Rattle.emission.specs.Emission.{count, propositionIn, formulaIn, Good, Step, HasProposition, Has, Emits}
 use Rattle.emission.specs.Plan.{node, opSignal, opName, opNegated, opPoint, opStretch, opUnit, opChop, opAnd, opOr, opLength, opCount, opNot, opSome, qEqual, Put}
 use Rattle.emission.proofs.Steps.{has-kept, proposition-kept, Addable, Added, put-added}
@@ -82,7 +82,7 @@ unfolding fieldsRight fieldRight sortOf qUse aUse bUse operandRight propositionO
 ruled = 0
 
 -- ---- by op, where there is room for one node more
-module _ {x : List ℕ} (good : Good x) (room : count x < mostNodes) where
+module _ {x : List ℕ} (good : Good x) (room : count x < mostEmitted) where
   may : (op q a b : ℕ) → op < 256 → q < 256 → a < 65536 → b < 65536
       → fieldsRight emittedSorts (headerOf x .signals) (headerOf x .names) (node op q a b) ≡ true
       → operandRight emittedSorts (nodeIn x) (count x) (aUse op) a ≡ true

@@ -8,7 +8,7 @@ use Rattle.semantics.specs.Formula.{Formula, point, stretch, unit, chop, conjun
 use Rattle.semantics.specs.Translation.{anywhere, extended}
 use Rattle.stored.specs.Tree.{comparisonOf}
 use Rattle.stored.specs.Sheet.{headerOf}
-use Rattle.emission.specs.Bound.{mostNodes}
+use Rattle.emission.specs.Bound.{mostEmitted}
 use Rattle.emission.specs.Emission.{count, Step, Has, Emits, Ready}
 use Rattle.emission.specs.Plan.{node, opLength, qAtLeast, Put, WroteProposition, named, signalled, negatedOf}
 use Rattle.emission.specs.Plan.{Wrote, there, everywhere, longer, marked, noMore, exactly, noLess, pointed, stretched, united, chopped, conjoined, disjoined, denied, columned}
@@ -24,10 +24,10 @@ at-least (suc n) h put = noLess put
 -- ---- what they tell
 -- wherever plan p is written after y, with room for k nodes, it takes at most k and its node is formula f
 abbrev pub Tells : List ℕ → Formula → Formula → ℕ → Type 0
-Tells y p f k = (x z : List ℕ) (r j : ℕ) → Step y x j → count x + k ≤ mostNodes → Wrote x z r p → Emits x z r k f
+Tells y p f k = (x z : List ℕ) (r j : ℕ) → Step y x j → count x + k ≤ mostEmitted → Wrote x z r p → Emits x z r k f
 
 abbrev pub TellsProposition : List ℕ → Proposition → ℕ → Type 0
-TellsProposition y p k = (x z : List ℕ) (r j : ℕ) → Step y x j → count x + k ≤ mostNodes → WroteProposition x z r p → EmitsProposition x z r k p
+TellsProposition y p k = (x z : List ℕ) (r j : ℕ) → Step y x j → count x + k ≤ mostEmitted → WroteProposition x z r p → EmitsProposition x z r k p
 
 -- what two plans tell, one after the other
 record Both (x z : List ℕ) (a b k : ℕ) (f g : Formula) : Type 0 where
@@ -69,7 +69,7 @@ module _ {y : List ℕ} where
       after (a .step) (some-new (a .step .good) (omega arith) u (omega (arith, step .names, a .step .names)) (a .has) put)
 
   two : {x m z : List ℕ} {a b i j k : ℕ} {p q f g : Formula} → Tells y p f j → Tells y q g k
-      → Step y x i → count x + (j + k + 1) ≤ mostNodes → Wrote x m a p → Wrote m z b q → Both x z a b (j + k) f g
+      → Step y x i → count x + (j + k + 1) ≤ mostEmitted → Wrote x m a p → Wrote m z b q → Both x z a b (j + k) f g
   two s t step room v w =
       let d = s _ _ _ _ step (omega arith) v in
       let e = t _ _ _ _ (steps step (d .step)) (omega arith) w in

@@ -12,7 +12,7 @@ use Rattle.semantics.specs.Translation.{anywhere, extended, nothing}
 use Rattle.semantics.proofs.Tests.{test}
 use Rattle.stored.specs.Sheet.{headerOf}
 use Rattle.stored.specs.Tree.{comparisonOf}
-use Rattle.emission.specs.Bound.{mostNodes}
+use Rattle.emission.specs.Bound.{mostEmitted}
 use Rattle.emission.specs.Emission.{count, Good, Step, HasProposition, Has, Emits, Shared}
 use Rattle.emission.specs.Plan.{node, opName, opLength, opCount, qBelow, qEqual, qAtLeast, qAbove, Put}
 use Rattle.emission.proofs.Steps.{steps, has-kept, proposition-kept, shared-kept, put-place}
@@ -23,7 +23,7 @@ record Length (x y : List ℕ) (r q : ℕ) : Type 0 where
   emits : Emits x y r 1 (slen (comparisonOf q) 0)
   place : r ≡ count x
 
-length-next : {x y : List ℕ} {r : ℕ} (q : ℕ) → q < 5 → Good x → count x < mostNodes → Put (node opLength q 0 0) x y r → Length x y r q
+length-next : {x y : List ℕ} {r : ℕ} (q : ℕ) → q < 5 → Good x → count x < mostEmitted → Put (node opLength q 0 0) x y r → Length x y r q
 length-next q l good room put =
     record {
       emits = length-new good room l (omega arith) put;

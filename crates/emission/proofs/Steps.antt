@@ -14,12 +14,13 @@ use Rattle.semantics.proofs.Tests.{test, and-intro, and-left, and-right}
 use Rattle.stored.specs.declared.Node.{Node}
 use Rattle.stored.specs.declared.Header.{Header}
 use Rattle.stored.specs.Bytes.{word}
+use Rattle.stored.specs.Layout.{nodesEnd, following, leastOutput}
 use Rattle.stored.specs.Node.{emittedSorts, sortOf, sortBelow, aUse, bUse, fieldsRight, operandRight, operandsRight}
 use Rattle.stored.specs.Sheet.{headerOf}
 use Rattle.stored.specs.Written.{nodeIn, NodeFits, putNode, putHeader, emittedHeader}
 use Rattle.stored.proofs.Written.{put-length, put-back, put-read, put-other, header-length, header-back, header-nodes, header-byte, header-read, header-rest}
 use Rattle.stored.proofs.Tree.{proposition-agree, formula-agree}
-use Rattle.emission.specs.Bound.{mostNodes}
+use Rattle.emission.specs.Bound.{mostEmitted}
 use Rattle.emission.specs.Emission.{count, propositionIn, formulaIn, Good, Step, HasProposition, Has, Emits, Shared, Ready}
 use Rattle.emission.specs.Plan.{node, fits, appended, Put}
 
@@ -130,7 +131,7 @@ operands-same x y i h =
 -- node n may come next
 pub record Addable (y : List ℕ) (n : Node) : Type 0 where
   pub good : Good y
-  pub room : count y < mostNodes
+  pub room : count y < mostEmitted
   pub fields : NodeFits n
   pub right : fieldsRight emittedSorts (headerOf y .signals) (headerOf y .names) n ≡ true
   pub a-right : operandRight emittedSorts (nodeIn y) (count y) (aUse (n .op)) (n .a) ≡ true
@@ -153,7 +154,7 @@ module _ (x : List ℕ) (n : Node) (may : Addable x n) where
   m : ℕ
   m = headerOf x .names
 
-  inside : 15 + 6 * c ≤ length x
+  inside : nodesEnd (c + 1) ≤ length x
   unfolding c
   inside = omega (arith, may .room, may .good .long)
 
@@ -177,7 +178,7 @@ module _ (x : List ℕ) (n : Node) (may : Addable x n) where
   unfolding appended c s m
   is-old i h = header-nodes (putNode x c n) s m (c + 1) i ∙ put-other x c n i h
 
-  back-same : (t : ℕ) → 15 + 6 * c ≤ t → drop t (appended x n) ≡ drop t x
+  back-same : (t : ℕ) → nodesEnd (c + 1) ≤ t → drop t (appended x n) ≡ drop t x
   unfolding appended c s m
   back-same t h = header-back (putNode x c n) s m (c + 1) t (omega arith) ∙ put-back x c n t (omega arith)
 
@@ -189,7 +190,7 @@ module _ (x : List ℕ) (n : Node) (may : Addable x n) where
   unfolding appended c s m emittedHeader
   kind-is = header-byte (putNode x c n) s m (c + 1) held 3 (omega arith)
 
-  rest-is : word (appended x n) 0 ≡ 7 + 6 * (c + 1)
+  rest-is : word (appended x n) 0 ≡ following (nodesEnd (c + 1))
   unfolding appended c s m
   rest-is = header-rest (putNode x c n) s m (c + 1) held
 
@@ -260,19 +261,19 @@ module _ (x : List ℕ) (n : Node) (may : Addable x n) where
 
 -- a node that fits, in numbers
 pub record Fits (x : List ℕ) (n : Node) : Type 0 where
-  pub long : 8192 ≤ length x
+  pub long : leastOutput ≤ length x
   pub fields : NodeFits n
-  pub room : count x < mostNodes
+  pub room : count x < mostEmitted
 
 pub fits-open : (x : List ℕ) (n : Node) → fits x n ≡ true → Fits x n
 unfolding fits
 fits-open x n e =
-    let all = and-right (leb 8192 (length x)) _ e in
+    let all = and-right (leb leastOutput (length x)) _ e in
     let four = and-left (ltb (n .op) 256 && (ltb (n .q) 256 && (ltb (n .a) 65536 && ltb (n .b) 65536))) _ all in
     let three = and-right (ltb (n .op) 256) _ four in
     let two = and-right (ltb (n .q) 256) _ three in
     record {
-      long = leb-true 8192 (length x) (and-left (leb 8192 (length x)) _ e);
+      long = leb-true leastOutput (length x) (and-left (leb leastOutput (length x)) _ e);
       fields =
           record {
             op-fits = ltb-true _ 256 (and-left (ltb (n .op) 256) _ four);
@@ -280,18 +281,18 @@ fits-open x n e =
             a-fits = ltb-true _ 65536 (and-left (ltb (n .a) 65536) _ two);
             b-fits = ltb-true _ 65536 (and-right (ltb (n .a) 65536) _ two);
           };
-      room = ltb-true (count x) mostNodes (and-right (ltb (n .op) 256 && (ltb (n .q) 256 && (ltb (n .a) 65536 && ltb (n .b) 65536))) _ all);
+      room = ltb-true (count x) mostEmitted (and-right (ltb (n .op) 256 && (ltb (n .q) 256 && (ltb (n .a) 65536 && ltb (n .b) 65536))) _ all);
     }
 
 fits-made : (x : List ℕ) (n : Node) → Fits x n → fits x n ≡ true
 unfolding fits
 fits-made x n h =
     let f = h .fields in
-    and-intro _ _ (le-leb 8192 (length x) (h .long))
+    and-intro _ _ (le-leb leastOutput (length x) (h .long))
     (and-intro _ _
     (and-intro _ _ (lt-ltb _ 256 (f .op-fits))
     (and-intro _ _ (lt-ltb _ 256 (f .q-fits)) (and-intro _ _ (lt-ltb _ 65536 (f .a-fits)) (lt-ltb _ 65536 (f .b-fits)))))
-    (lt-ltb (count x) mostNodes (h .room)))
+    (lt-ltb (count x) mostEmitted (h .room)))
 
 -- it is written where it fits, and nothing where it does not
 pub put-none : {x : List ℕ} {n : Node} → fits x n ≡ false → Put n x x 0
@@ -302,13 +303,13 @@ pub put-made : {x y z : List ℕ} {n : Node} {s m k : ℕ} → fits x n ≡ true
 unfolding appended headerOf
 put-made e es em ek ey ez = record { bytes = rw e (rw (ez, ey, es, em, ek)); root = rw e ek }
 
-written : {x : List ℕ} {n : Node} → Good x → count x < mostNodes → NodeFits n → fits x n ≡ true
+written : {x : List ℕ} {n : Node} → Good x → count x < mostEmitted → NodeFits n → fits x n ≡ true
 written {x} {n} good room fields = fits-made x n (record { long = good .long; fields = fields; room = room })
 
 root-is : {x y : List ℕ} {r : ℕ} {n : Node} → fits x n ≡ true → Put n x y r → r ≡ count x
 root-is {x} e put = put .root ∙ ap (λ (b : Bool). cond b (count x) 0) e
 
-pub put-place : {x y : List ℕ} {r op q a b : ℕ} → Good x → count x < mostNodes → op < 256 → q < 256 → a < 65536 → b < 65536
+pub put-place : {x y : List ℕ} {r op q a b : ℕ} → Good x → count x < mostEmitted → op < 256 → q < 256 → a < 65536 → b < 65536
     → Put (node op q a b) x y r → r ≡ count x
 put-place good room o q a b put = root-is (written good room (record { op-fits = o; q-fits = q; a-fits = a; b-fits = b })) put
 

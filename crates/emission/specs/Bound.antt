@@ -25,5 +25,5 @@ nodeBound s =
     + headerOf s .clauses * (16 + 5 * headerOf s .names)
 
 -- the largest such bound: 64 nodes, all of them drawings, 3 names and 8 clauses
-abbrev pub mostNodes : ℕ
-mostNodes = 1025
+abbrev pub mostEmitted : ℕ
+mostEmitted = 1025

@@ -10,6 +10,7 @@ use Rattle.semantics.specs.Formula.{Formula}
 use Rattle.semantics.specs.Cycles.{countBelow}
 use Rattle.semantics.specs.Translation.{nothing, undrawn}
 use Rattle.stored.specs.declared.Node.{Node}
+use Rattle.stored.specs.Layout.{nodeSize, mostNodes}
 use Rattle.stored.specs.Node.{requirementSorts, sortOf, aUse, bUse, nodeAt, fieldsRight, operandsRight}
 use Rattle.stored.specs.Tree.{propositionAt, formulaOp, formulaOf, formulaAt}
 use Rattle.stored.specs.Reach.{entryOf}
@@ -60,7 +61,7 @@ copyCosts x i = i + 11 * countBelow i (drawingAt x)
 
 -- the nodes of a sheet that rules 6 and 7 take
 pub record NodesIn (y : List ℕ) (nodes : List ℕ) (n : ℕ) : Type 0 where
-  pub few : n ≤ 64
-  pub inside : 6 * n ≤ length nodes
+  pub few : n ≤ mostNodes
+  pub inside : nodeSize * n ≤ length nodes
   pub fields : (i : ℕ) → i < n → fieldsRight requirementSorts (headerOf y .signals) (headerOf y .names) (nodeAt nodes i) ≡ true
   pub operands : (i : ℕ) → i < n → operandsRight requirementSorts (nodeAt nodes) i ≡ true

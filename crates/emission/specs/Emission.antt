@@ -11,8 +11,9 @@ use Rattle.stored.specs.Bytes.{word}
 use Rattle.stored.specs.Node.{emittedSorts, sortOf, fieldsRight, operandsRight}
 use Rattle.stored.specs.Tree.{propositionAt, formulaAt}
 use Rattle.stored.specs.Sheet.{headerOf}
-use Rattle.stored.specs.Written.{nodeIn, emittedLength}
-use Rattle.emission.specs.Bound.{mostNodes}
+use Rattle.stored.specs.Layout.{nodesEnd, following, mostSignals, mostNames, leastOutput}
+use Rattle.stored.specs.Written.{nodeIn}
+use Rattle.emission.specs.Bound.{mostEmitted}
 
 abbrev pub count : List ℕ → ℕ
 count y = headerOf y .nodes
@@ -26,15 +27,15 @@ formulaIn y i = formulaAt (nodeIn y) i
 
 -- a kind 2 sheet that is being written: its header and its nodes so far are right
 pub record Good (y : List ℕ) : Type 0 where
-  pub long : 8192 ≤ length y
-  pub rest : word y 0 ≡ 7 + 6 * count y
+  pub long : leastOutput ≤ length y
+  pub rest : word y 0 ≡ following (nodesEnd (count y))
   pub version : getD y 2 0 ≡ 1
   pub kind : getD y 3 0 ≡ 2
   pub some-signals : 1 ≤ headerOf y .signals
-  pub few-signals : headerOf y .signals ≤ 16
-  pub few-names : headerOf y .names ≤ 3
+  pub few-signals : headerOf y .signals ≤ mostSignals
+  pub few-names : headerOf y .names ≤ mostNames
   pub no-clauses : headerOf y .clauses ≡ 0
-  pub few-nodes : count y ≤ mostNodes
+  pub few-nodes : count y ≤ mostEmitted
   pub nodes-right : (i : ℕ) → i < count y → fieldsRight emittedSorts (headerOf y .signals) (headerOf y .names) (nodeIn y i) ≡ true
   pub operands-right : (i : ℕ) → i < count y → operandsRight emittedSorts (nodeIn y) i ≡ true
 
@@ -46,7 +47,7 @@ pub record Step (x y : List ℕ) (k : ℕ) : Type 0 where
   pub signals : headerOf y .signals ≡ headerOf x .signals
   pub names : headerOf y .names ≡ headerOf x .names
   pub same : (i : ℕ) → i < count x → nodeIn y i ≡ nodeIn x i
-  pub back : (t : ℕ) → emittedLength (count y) ≤ t → drop t y ≡ drop t x
+  pub back : (t : ℕ) → nodesEnd (count y) ≤ t → drop t y ≡ drop t x
   pub good : Good y
 
 -- node a is proposition p, or formula f

@@ -9,9 +9,10 @@ use lib.ListN.{length}
 use Rattle.semantics.specs.Proposition.{Proposition, signal, name, negated}
 use Rattle.semantics.specs.Formula.{Formula, point, stretch, unit, chop, conjunction, disjunction, slen, scount, at, negation, forSome, atMost, equal, atLeast, above}
 use Rattle.stored.specs.declared.Node.{Node}
+use Rattle.stored.specs.Layout.{leastOutput}
 use Rattle.stored.specs.Sheet.{headerOf}
 use Rattle.stored.specs.Written.{putNode, putHeader}
-use Rattle.emission.specs.Bound.{mostNodes}
+use Rattle.emission.specs.Bound.{mostEmitted}
 use Rattle.emission.specs.Emission.{count}
 
 -- The ops that a plan needs, by document 01's numbers.
@@ -76,8 +77,8 @@ node op q a b = record { op = op; q = q; a = a; b = b }
 -- the fields of node n fit their bytes, and there is room for one node more
 unfoldable pub fits : List ℕ → Node → Bool
 fits x n =
-    leb 8192 (length x)
-    && ((ltb (n .op) 256 && (ltb (n .q) 256 && (ltb (n .a) 65536 && ltb (n .b) 65536))) && ltb (count x) mostNodes)
+    leb leastOutput (length x)
+    && ((ltb (n .op) 256 && (ltb (n .q) 256 && (ltb (n .a) 65536 && ltb (n .b) 65536))) && ltb (count x) mostEmitted)
 
 -- the bytes with node n after the last
 unfoldable pub appended : List ℕ → Node → List ℕ

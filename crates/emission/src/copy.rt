@@ -2,15 +2,17 @@
 use crate::drawing;
 use crate::node;
 use stored::Node;
+use stored::layout;
 use stored::masks;
 use stored::nodes;
 ghost use mathlib.Core.Bool.{true};
 ghost use mathlib.Core.Path.{_≡_};
 ghost use Prim.Native.Nat.{_+_, _*_, _≤_};
 ghost use lib.ListN.{length};
+ghost use Rattle.stored.specs.Layout.{nodeSize};
 ghost use Rattle.stored.specs.Node.{nodeAt};
 ghost use Rattle.stored.specs.Written.{NodeFits};
-ghost use Rattle.emission.specs.Bound.{mostNodes, isDrawing};
+ghost use Rattle.emission.specs.Bound.{mostEmitted, isDrawing};
 ghost use Rattle.emission.specs.Emission.{count, Step, Ready};
 ghost use Rattle.emission.specs.Plan.{Put, Wrote};
 ghost use Rattle.emission.specs.Copying.{Mapped, mappedTo, copiedNode, drawingOf, Copied, copyCosts, NodesIn};
@@ -53,7 +55,7 @@ fn put_drawing(out: &mut [u8], x: Node) -> usize
 
 // Node i, where the map gives the nodes that stand for the earlier ones.
 fn copy_node(out: &mut [u8], map: &[usize], nodes: &[u8], i: usize) -> usize
-    requires { ⌜ 6 * i + 6 ≤ length (now nodes) ⌝ }
+    requires { ⌜ nodeSize * i + nodeSize ≤ length (now nodes) ⌝ }
     ensures { λ r. ⌜ Copied (now (map .entry)) (nodeAt (now (nodes .entry)) i) (now (out .entry)) (now (out .exit)) r ⌝ }
 {
     let x = nodes::node_at(nodes, i);
@@ -65,11 +67,11 @@ fn copy_node(out: &mut [u8], map: &[usize], nodes: &[u8], i: usize) -> usize
 }
 
 // The map from the sheet's n nodes to the nodes that stand for them.
-pub fn copy_nodes(out: &mut [u8], nodes: &[u8], n: usize) -> [usize; 64]
-    requires { ⌜ (Ready (now out)) × (count (now out) + 768 ≤ mostNodes) × (NodesIn (now out) (now nodes) n) ⌝ }
+pub fn copy_nodes(out: &mut [u8], nodes: &[u8], n: usize) -> [usize; layout::MOST_NODES]
+    requires { ⌜ (Ready (now out)) × (count (now out) + 768 ≤ mostEmitted) × (NodesIn (now out) (now nodes) n) ⌝ }
     ensures { λ r. ⌜ (Step (now (out .entry)) (now (out .exit)) (copyCosts (nodeAt (now (nodes .entry))) n)) × (Mapped (nodeAt (now (nodes .entry))) n (now (out .exit)) r) ⌝ }
 {
-    let mut map = [0usize; 64];
+    let mut map = [0usize; layout::MOST_NODES];
     let mut i = 0;
     while i < n {
         let r = copy_node(out, &map, nodes, i);

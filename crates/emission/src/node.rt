@@ -1,6 +1,7 @@
 // One node more of the sheet that is being written. Each function gives the new node's number.
 use stored::Node;
 use stored::bytes;
+use stored::layout;
 use stored::writer;
 ghost use mathlib.Core.Path.{_≡_};
 ghost use Rattle.emission.specs.Plan.{fits, Put, node, opSignal, opName, opNegated, opPoint, opStretch, opUnit, opChop, opAnd, opOr, opLength, opCount, opNot, opSome};
@@ -49,23 +50,21 @@ pub const AT_LEAST: usize = 3;
 
 pub const ABOVE: usize = 4;
 
-// The output that document 01 asks for, and its bound on a formula's nodes at its largest.
-const BYTES: usize = 8192;
-
-const NODES: usize = 1025;
+// Document 01's bound on a formula's nodes at its largest.
+const MOST_EMITTED: usize = 1025;
 
 // The node's fields fit their bytes, and there is room for one node more.
 fn fits(out: &[u8], x: Node) -> bool
     ensures { λ r. ⌜ r ≡ fits (now (out .entry)) x ⌝ }
 {
-    if out.len() < BYTES {
+    if out.len() < layout::LEAST_OUTPUT {
         return false;
     }
     let op = x.op < 256;
     let q = x.q < 256;
     let a = x.a < 65536;
     let b = x.b < 65536;
-    (op & (q & (a & b))) & (writer::count(out) < NODES)
+    (op & (q & (a & b))) & (writer::count(out) < MOST_EMITTED)
 }
 
 // The next node, whatever it is; nothing is written where it does not fit.

@@ -8,9 +8,10 @@ use native.Mathlib.Omega.{arith}
 use borrow.Author.Tests.{eqb-true}
 use lib.Dec.{eqb, ltb, leb}
 use lib.ListN.{length, take}
+use Rattle.stored.specs.Layout.{nodesEnd, clausesEnd, leastOutput}
 use Rattle.semantics.proofs.Tests.{and-right}
 use Rattle.semantics.proofs.Cycles.{count-most}
-use Rattle.stored.specs.Sheet.{headerOf, nodesOf, sized, sheetEnd, sheetRefusal, sheetRules}
+use Rattle.stored.specs.Sheet.{headerOf, nodesOf, sized, sheetRefusal, sheetRules}
 use Rattle.stored.specs.Tree.{pick}
 use Rattle.stored.specs.Emitted.{isEmitted, emittedCounted}
 use Rattle.stored.proofs.Accepted.{opened}
@@ -59,12 +60,12 @@ bound-most s e =
     let all : headerOf s .clauses * (16 + 5 * headerOf s .names) ≤ 8 * 31 = mul-le-mul clauses each in
     omega arith
 
-emitted-length : (y : List ℕ) → isEmitted y ≡ true → length y ≡ 9 + 6 * headerOf y .nodes
-unfolding sized sheetEnd emittedCounted
+emitted-length : (y : List ℕ) → isEmitted y ≡ true → length y ≡ nodesEnd (headerOf y .nodes)
+unfolding sized emittedCounted
 emitted-length y e =
     let o = emitted-opened y e in
     let h = headerOf y in
-    let long = eqb-true (length y) (9 + 6 * headerOf y .nodes + 11 * headerOf y .clauses) (o .is-sized) in
+    let long = eqb-true (length y) (clausesEnd (headerOf y .nodes) (headerOf y .clauses)) (o .is-sized) in
     let rest = and-right (leb 1 (h .signals) && leb (h .signals) 16) _ (o .is-counted) in
     let rest₂ = and-right (leb (h .names) 3) _ rest in
     let none = eqb-true (h .clauses) 0 (and-right (leb 1 (h .nodes)) _ rest₂) in
@@ -74,7 +75,7 @@ sheet-accepted : (s : List ℕ) (size : ℕ) → translateRefusal s size ≡ 0 �
 unfolding translateRefusal
 sheet-accepted s size e = go (eqb (sheetRefusal s) 0) refl e
   where
-    go : (b : Bool) → eqb (sheetRefusal s) 0 ≡ b → cond b (cond (ltb size 8192) 14 0) (sheetRefusal s) ≡ 0 → sheetRefusal s ≡ 0
+    go : (b : Bool) → eqb (sheetRefusal s) 0 ≡ b → cond b (cond (ltb size leastOutput) 14 0) (sheetRefusal s) ≡ 0 → sheetRefusal s ≡ 0
     go true t e = eqb-true (sheetRefusal s) 0 t
     go false t e = e
 
@@ -84,7 +85,7 @@ sheet-small s = lowest-small 1 (sheetRules s) (omega arith) (omega arith)
 
 refusal-small : (s : List ℕ) (size : ℕ) → translateRefusal s size < 100
 unfolding translateRefusal
-refusal-small s size = go (eqb (sheetRefusal s) 0) (ltb size 8192) (sheet-small s)
+refusal-small s size = go (eqb (sheetRefusal s) 0) (ltb size leastOutput) (sheet-small s)
   where
     go : (a b : Bool) → sheetRefusal s < 100 → cond a (cond b 14 0) (sheetRefusal s) < 100
     go true true h = omega arith

@@ -10,6 +10,7 @@ use borrow.Author.Tests.{eqb-false, ne-eqb, le-leb, lt-leb}
 use lib.Dec.{eqb, leb}
 use lib.ListN.{length, getD, set, take, drop, replicate, length-replicate}
 use lib.Seq.{take-all}
+use Rattle.stored.specs.Layout.{leastWords}
 use Rattle.stored.specs.Bytes.{lowest}
 use Rattle.stored.specs.Sheet.{headerOf, sheetRefusal}
 use Rattle.stored.specs.Trace.{traceRefusal}
@@ -103,7 +104,7 @@ or-some a b h e = go (eqb a 0) refl e
 lent-short : (words rows : List ℕ) → length rows < 64 → lentRefusal words rows ≡ 15
 unfolding lentRefusal lowest
 lent-short words rows h =
-    ap (λ (b : Bool). lowest 15 ((leb 4096 (length words) && b) ∷ [])) (lt-leb 64 (length rows) h) ∙ go (leb 4096 (length words))
+    ap (λ (b : Bool). lowest 15 ((leb leastWords (length words) && b) ∷ [])) (lt-leb 64 (length rows) h) ∙ go (leb leastWords (length words))
   where
     go : (b : Bool) → lowest 15 ((b && false) ∷ []) ≡ 15
     go true = refl
@@ -112,7 +113,7 @@ lent-short words rows h =
 lent-long : (words rows : List ℕ) → 64 ≤ length rows → lentRefusal words rows ≡ wordsRefusal words
 unfolding lentRefusal wordsRefusal lowest
 lent-long words rows h =
-    ap (λ (b : Bool). lowest 15 ((leb 4096 (length words) && b) ∷ [])) (le-leb 64 (length rows) h) ∙ go (leb 4096 (length words))
+    ap (λ (b : Bool). lowest 15 ((leb leastWords (length words) && b) ∷ [])) (le-leb 64 (length rows) h) ∙ go (leb leastWords (length words))
   where
     go : (b : Bool) → lowest 15 ((b && true) ∷ []) ≡ lowest 15 (b ∷ [])
     go true = refl

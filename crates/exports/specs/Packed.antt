@@ -5,6 +5,7 @@ use mathlib.Core.List.{List, [], _∷_, _++_}
 use lib.Dec.{eqb, leb}
 use lib.ListN.{length, drop}
 use Rattle.stored.specs.Bytes.{lowest}
+use Rattle.stored.specs.Layout.{leastOutput, leastWords}
 use Rattle.stored.specs.Sheet.{headerOf, nodesOf, sheetRefusal}
 use Rattle.stored.specs.Trace.{cycleCount, cyclesOf, traceRefusal}
 use Rattle.stored.specs.Tree.{pick}
@@ -46,8 +47,8 @@ unpackedFormula r = pick (eqb (r % 256) 4) (formula.Written (r / 256)) (formula.
 
 -- its number can be packed
 abbrev pub SmallFormula : TranslateAnswer → Type 0
-SmallFormula (formula.Written size) = size ≤ 8192
-SmallFormula (formula.Refused number) = number ≤ 8192
+SmallFormula (formula.Written size) = size ≤ leastOutput
+SmallFormula (formula.Refused number) = number ≤ leastOutput
 
 -- the table's answer: tag 0 and the refusal's number, 4 and 0 where there is none
 unfoldable pub packedTable : ℕ → ℕ
@@ -55,7 +56,7 @@ packedTable number = cond (eqb number 0) 4 (number * 256)
 
 -- 15. The lent words are 4,096 or more, and the lent rows 64 or more.
 unfoldable pub lentRefusal : List ℕ → List ℕ → ℕ
-lentRefusal words rows = lowest 15 ((leb 4096 (length words) && leb 64 (length rows)) ∷ [])
+lentRefusal words rows = lowest 15 ((leb leastWords (length words) && leb 64 (length rows)) ∷ [])
 
 -- the lowest number that applies to a table written into lent rows, or 0
 unfoldable pub rowsRefusal : List ℕ → List ℕ → ℕ → ℕ → ℕ → ℕ → List ℕ → List ℕ → ℕ

@@ -12,7 +12,7 @@ use lib.Pow.{pow-pos}
 use borrow.Author.Tests.{leb-true, leb-false, le-leb, ltb-true, lt-ltb, eqb-true, eq-eqb, ne-eqb}
 use Rattle.semantics.specs.Cycles.{someBelow, someFrom, someIn}
 use Rattle.semantics.specs.Proposition.{bit}
-use Rattle.semantics.specs.Clause.{Kind, pref, init, anti, implies, follows, triggers}
+use Rattle.semantics.specs.Clause.{ClauseType, pref, init, anti, implies, follows, triggers}
 use Rattle.semantics.proofs.Tests.{same, test, is-false, false-not, and-left, and-right, and-intro, and-comm, and-false, and-false-left, and-false-right, and-true-right, not-intro, not-elim}
 use Rattle.semantics.proofs.Cycles.{below-intro, below-elim, below-cong, some-elim}
 use Rattle.rows.specs.Row.{word, row, always}
@@ -180,7 +180,7 @@ no-premise : (a b c d : Bool) → (a ≡ true → c ≡ false) → a && b && (c 
 no-premise true b c d f = and-false-right b (c && d) (and-false-left c d (f refl))
 no-premise false b c d f = refl
 
-pub missed-is : (κ : Kind) (first third answers : ℕ → ℕ → Bool) (i j k : ℕ)
+pub missed-is : (κ : ClauseType) (first third answers : ℕ → ℕ → Bool) (i j k : ℕ)
     → missed κ first third answers i j k ≡ (starting κ i (first i) (answers i) j && (ending κ i j third k && unreplied κ i j answers k))
 unfolding missed starting ending unreplied
 missed-is pref first third answers i j k = go (eqb i 0) refl
@@ -200,7 +200,7 @@ missed-is follows first third answers i j k = turned-in (leb i j) (leb j k) (fir
 missed-is triggers first third answers i j k = turned-in (leb i j) (leb i k) (first i j) (third i k) (not (someIn i k (answers i)))
 
 -- ---- without any interval of the premise, none is open
-pub missed-premise : (κ : Kind) (first third answers : ℕ → ℕ → Bool) (n i j k : ℕ) → premised κ ≡ true → j < n
+pub missed-premise : (κ : ClauseType) (first third answers : ℕ → ℕ → Bool) (n i j k : ℕ) → premised κ ≡ true → j < n
     → ((b e : ℕ) → b ≤ e → e < n → first b e ≡ false) → missed κ first third answers i j k ≡ false
 unfolding premised missed
 missed-premise pref first third answers n i j k p h f = absurd (false≢true p)
@@ -229,7 +229,7 @@ deeper a false d m h = h
 none-some : (x y : ℕ) → not (someIn x y (λ e. false)) ≡ true
 none-some x y = not-intro (someIn x y (λ e. false)) (λ q. let w = some-elim x (suc y) (λ e. false) q in false≢true (w .ok))
 
-pub missed-fewer : (κ : Kind) (first third answers : ℕ → ℕ → Bool) (i j k : ℕ)
+pub missed-fewer : (κ : ClauseType) (first third answers : ℕ → ℕ → Bool) (i j k : ℕ)
     → missed κ first third (λ b e. false) i j k ≡ false → missed κ first third answers i j k ≡ false
 unfolding missed
 missed-fewer pref first third answers i j k h = and-false-left (eqb i 0 && eqb k j) (not (answers 0 j)) (sym (and-true-right (eqb i 0 && eqb k j)) ∙ h)

@@ -26,7 +26,7 @@ use Rattle.tables.proofs.Moves.{table-placed}
 use Rattle.places.specs.declared.task.Task.{Task}
 use Rattle.places.specs.Search.{inside, onInside, shortInside, answered, premised, missed}
 use Rattle.places.specs.Places.{numbered, IsLeast}
-use Rattle.places.specs.Rows.{kindOf, testOf}
+use Rattle.places.specs.Rows.{typeOf, testOf}
 use Rattle.places.specs.Gather.{cutTo, gathered, Adds, Ends}
 use Rattle.places.specs.Task.{missedTask}
 use Rattle.places.specs.Laid.{Laid, IsFormula, Formulas, replyOn, missedOn, overLast}
@@ -99,12 +99,12 @@ module _ {nodes words : List ℕ} {count n : ℕ} {σ : Trace} (ν : Placement) 
     Missed r = IsLeast best (λ y. missedOn nodes σ n task y ν) r
 
     -- the premise has no interval
-    pub none-premised : (some : ℕ) → premised (kindOf (task .kind)) ≡ true → some ≡ 0
+    pub none-premised : (some : ℕ) → premised (typeOf (task .«clause_type»)) ≡ true → some ≡ 0
         → Ends n (gathered words (task .premise) (task .premises) false ν) some → Missed best
     unfolding missedOn missedTask
     none-premised some p z ends =
         least-stay (λ y l. numbered-false n _ y (λ hi hj hk.
-        missed-premise (kindOf (task .kind)) _ _ _ n _ _ _ p hj (λ b e o h.
+        missed-premise (typeOf (task .«clause_type»)) _ _ _ n _ _ _ p hj (λ b e o h.
         sym (gathered-on (task .premises) (f .premise) b e o h)
         ∙ is-false (gathered words (task .premise) (task .premises) false ν b e) (λ q.
         false-not (bit some e) (ap (λ (x : ℕ). bit x e) z ∙ bit-nothing e) (ends .ends b e o h q)))))
@@ -128,20 +128,20 @@ module _ {nodes words : List ℕ} {count n : ℕ} {σ : Trace} (ν : Placement) 
       third-is b e o h = fresh third _ a₃ b e o h ∙ gathered-short (task .thirds) (f .third) b e o h
 
       pub place-least : (answers : List ℕ) (r : ℕ) → Adds n (replicate 64 0) answers (λ b e. overLast 3 (bit (task .rest)) n ν (replyOn nodes σ task b e))
-          → IsLeast best (numbered n (missed (kindOf (task .kind)) (testOf first) (testOf third) (testOf answers))) r → Missed r
+          → IsLeast best (numbered n (missed (typeOf (task .«clause_type»)) (testOf first) (testOf third) (testOf answers))) r → Missed r
       unfolding missedOn missedTask answered replyOn overLast somePlacement premises thirds replies
       place-least answers r a₂ least =
           missed-least n (testOf first) premises (testOf third) thirds (testOf answers) replies first-is third-is
-          (λ b e o h. fresh answers _ a₂ b e o h) (kindOf (task .kind)) best r least
+          (λ b e o h. fresh answers _ a₂ b e o h) (typeOf (task .«clause_type»)) best r least
 
       -- nothing is open without any answer
       pub place-none : (rows : List ℕ) → rows ≡ replicate 64 0
-          → IsLeast best (numbered n (missed (kindOf (task .kind)) (testOf first) (testOf third) (testOf rows))) best → Missed best
+          → IsLeast best (numbered n (missed (typeOf (task .«clause_type»)) (testOf first) (testOf third) (testOf rows))) best → Missed best
       unfolding missedOn missedTask testOf premises thirds replies
       place-none rows z least =
           least-stay (λ y l.
-          numbered-fewer n (missed (kindOf (task .kind)) premises thirds (λ b e. false)) (missed (kindOf (task .kind)) premises thirds replies)
-          (λ i j k. missed-fewer (kindOf (task .kind)) premises thirds replies i j k) y
+          numbered-fewer n (missed (typeOf (task .«clause_type»)) premises thirds (λ b e. false)) (missed (typeOf (task .«clause_type»)) premises thirds replies)
+          (λ i j k. missed-fewer (typeOf (task .«clause_type»)) premises thirds replies i j k) y
           (missed-least n (testOf first) premises (testOf third) thirds (testOf rows) (λ b e. false) first-is third-is
           (λ b e o h. ap (λ (w : List ℕ). bit (getD w b 0) e) z ∙ ap (λ (x : ℕ). bit x e) (getD-replicate 64 b 0 0 (omega arith)) ∙ bit-nothing e)
-          (kindOf (task .kind)) best best least .before y l))
+          (typeOf (task .«clause_type»)) best best least .before y l))

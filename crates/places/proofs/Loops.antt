@@ -13,7 +13,7 @@ use borrow.Author.Tests.{leb-true, eqb-true, eqb-false}
 use Rattle.semantics.specs.Cycles.{someFrom, someIn}
 use Rattle.semantics.specs.Proposition.{Trace, bit}
 use Rattle.semantics.specs.Placement.{Names, noNames, Placement, unplaced, moved, placeName}
-use Rattle.semantics.specs.Clause.{Kind, pref, init, anti, implies, follows, triggers}
+use Rattle.semantics.specs.Clause.{ClauseType, pref, init, anti, implies, follows, triggers}
 use Rattle.semantics.proofs.Tests.{same, test, or-false}
 use Rattle.semantics.proofs.Cycles.{some-intro, some-elim, some-none, some-cong}
 use Rattle.semantics.proofs.Placement.{moved-same}
@@ -142,7 +142,7 @@ module _ (n : ℕ) (f f′ t t′ a a′ : ℕ → ℕ → Bool) (ef : (b e : �
   under true false p q g = refl
   under false y p q g = refl
 
-  missed-ext : (κ : Kind) (i j k : ℕ) → j < n → k < n → missed κ f t a i j k ≡ missed κ f′ t′ a′ i j k
+  missed-ext : (κ : ClauseType) (i j k : ℕ) → j < n → k < n → missed κ f t a i j k ≡ missed κ f′ t′ a′ i j k
   unfolding missed
   missed-ext pref i j k hj hk = ap (λ (r : Bool). eqb i 0 && eqb k j && not r) (ea 0 j (omega arith) hj)
   missed-ext init i j k hj hk =
@@ -160,7 +160,7 @@ module _ (n : ℕ) (f f′ t t′ a a′ : ℕ → ℕ → Bool) (ef : (b e : �
       (λ p q. ap₂ (λ (r s : Bool). r && s) (ef i j (leb-true i j p) hj)
       (ap₂ (λ (r s : Bool). r && not s) (et i k (leb-true i k q) hk) (none-upto i k hk)))
 
-  pub missed-least : (κ : Kind) (best r : ℕ) → IsLeast best (numbered n (missed κ f t a)) r → IsLeast best (numbered n (missed κ f′ t′ a′)) r
+  pub missed-least : (κ : ClauseType) (best r : ℕ) → IsLeast best (numbered n (missed κ f t a)) r → IsLeast best (numbered n (missed κ f′ t′ a′)) r
   missed-least κ best r l =
       least-ext (λ x m. numbered-same n (missed κ f t a) (missed κ f′ t′ a′) x
       (λ hi hj hk. missed-ext κ (x / 4096) (x / 64 % 64) (x % 64) hj hk)) l

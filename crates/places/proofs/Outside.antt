@@ -9,7 +9,7 @@ use borrow.Author.Tests.{leb-true, le-leb}
 use Rattle.semantics.specs.Cycles.{someIn}
 use Rattle.semantics.specs.Proposition.{Trace}
 use Rattle.semantics.specs.Placement.{Names, noNames, everyName, union, listed, Placement, unplaced, placeName, somePlacement}
-use Rattle.semantics.specs.Clause.{Part, Kind, pref, init, anti, implies, follows, triggers, on, given, shortest, unanswered, breaksAt}
+use Rattle.semantics.specs.Clause.{Part, ClauseType, pref, init, anti, implies, follows, triggers, on, given, shortest, unanswered, breaksAt}
 use Rattle.semantics.specs.Reach.{fits, partsFit}
 use Rattle.semantics.proofs.Tests.{same, and-intro, and-left, and-right, and-true-right}
 use Rattle.semantics.proofs.Cycles.{some-cong}
@@ -162,7 +162,7 @@ module _ (d₁ d₂ d₃ : Part) (σ : Trace) (last : ℕ) (inσ : last < length
       q : Placement → Bool
       q ν = shortest d₃ σ ν s k && not (someIn s k (λ l. given Θ₁₃ ν d₂ σ s l))
 
-pub breaks-out : (κ : Kind) (d₁ d₂ d₃ : Part) (σ : Trace) (last : ℕ) → last < length σ → partsFit κ d₁ d₂ d₃ ≡ true → (i j k : ℕ) → j ≤ last → k ≤ last
+pub breaks-out : (κ : ClauseType) (d₁ d₂ d₃ : Part) (σ : Trace) (last : ℕ) → last < length σ → partsFit κ d₁ d₂ d₃ ≡ true → (i j k : ℕ) → j ≤ last → k ≤ last
     → breaksAt κ d₁ d₂ d₃ σ i j k
     ≡ somePlacement noNames (quantified κ (d₁ .names) (d₂ .names) (d₃ .names)) 0 last unplaced (λ ν. missedBy κ d₁ d₂ d₃ σ last ν i j k)
 unfolding breaksAt partsFit quantified premise reply missed missedBy answered

@@ -10,7 +10,7 @@ use lib.ListN.{getD}
 use lib.Dec.{ltb}
 use borrow.Author.Tests.{ltb-true, ltb-false}
 use Rattle.semantics.specs.Proposition.{bit}
-use Rattle.semantics.specs.Clause.{Kind}
+use Rattle.semantics.specs.Clause.{ClauseType}
 use Rattle.semantics.proofs.Tests.{test, and-intro, and-false-left, and-false-right}
 use Rattle.rows.specs.Row.{word}
 use Rattle.rows.proofs.Rows.{word-bit}
@@ -20,7 +20,7 @@ use Rattle.places.specs.Rows.{testOf, starting, ending, unreplied, Next}
 use Rattle.places.proofs.Found.{missed-is}
 use Rattle.places.proofs.Places.{first-is-least, least-stay, least-below, numbered-false}
 
-module _ (κ : Kind) (first third answers : List ℕ) (n : ℕ) where
+module _ (κ : ClauseType) (first third answers : List ℕ) (n : ℕ) where
   abbrev pub unansweredAt : ℕ → ℕ → ℕ → Bool
   unansweredAt i j k = missed κ (testOf first) (testOf third) (testOf answers) i j k
 

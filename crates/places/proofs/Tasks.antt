@@ -20,26 +20,26 @@ use Rattle.stored.specs.declared.StoredClause.{StoredClause}
 use Rattle.stored.specs.Clause as stored
 use Rattle.stored.specs.Clause.{clauseOf}
 use Rattle.stored.specs.Clause.{partOf}
-use Rattle.stored.proofs.Accepted.{kind-cases}
-use Rattle.places.specs.declared.search.Kind.{Kind}
+use Rattle.stored.proofs.Accepted.{type-cases}
+use Rattle.places.specs.declared.search.ClauseType.{ClauseType}
 use Rattle.places.specs.declared.task.Task.{Task}
 use Rattle.tables.specs.Table.{standing}
 use Rattle.places.specs.Search.{without, quantified, premise, reply, onInside, shortInside, answered, missed, missedBy}
 use Rattle.places.specs.Places.{numbered, IsLeast}
-use Rattle.places.specs.Rows.{kindOf}
-use Rattle.places.specs.Task.{kindNumbered, taskOf, missedTask}
+use Rattle.places.specs.Rows.{typeOf}
+use Rattle.places.specs.Task.{typeNumbered, taskOf, missedTask}
 use Rattle.places.proofs.Outside.{breaks-out, and-placement}
 use Rattle.places.proofs.Places.{least-ext, numbered-same}
 use Rattle.places.proofs.Loops.{unplaced-stands}
 
-pub same-task : {kind kind′ : Kind} {premise premise′ premises premises′ third third′ thirds thirds′ reply reply′ replies replies′ quantified quantified′ rest rest′ : ℕ}
-    → kind ≡ kind′ → premise ≡ premise′ → premises ≡ premises′ → third ≡ third′ → thirds ≡ thirds′ → reply ≡ reply′ → replies ≡ replies′
+pub same-task : {type type′ : ClauseType} {premise premise′ premises premises′ third third′ thirds thirds′ reply reply′ replies replies′ quantified quantified′ rest rest′ : ℕ}
+    → type ≡ type′ → premise ≡ premise′ → premises ≡ premises′ → third ≡ third′ → thirds ≡ thirds′ → reply ≡ reply′ → replies ≡ replies′
     → quantified ≡ quantified′ → rest ≡ rest′
     → _≡_ {A = Task}
-    (record { kind = kind; premise = premise; premises = premises; third = third; thirds = thirds; reply = reply; replies = replies; quantified = quantified; rest = rest })
-    (record { kind = kind′; premise = premise′; premises = premises′; third = third′; thirds = thirds′; reply = reply′; replies = replies′; quantified = quantified′; rest = rest′ })
+    (record { «clause_type» = type; premise = premise; premises = premises; third = third; thirds = thirds; reply = reply; replies = replies; quantified = quantified; rest = rest })
+    (record { «clause_type» = type′; premise = premise′; premises = premises′; third = third′; thirds = thirds′; reply = reply′; replies = replies′; quantified = quantified′; rest = rest′ })
 same-task a b c d e f g h k =
-    λ i. record { kind = a i; premise = b i; premises = c i; third = d i; thirds = e i; reply = f i; replies = g i; quantified = h i; rest = k i }
+    λ i. record { «clause_type» = a i; premise = b i; premises = c i; third = d i; thirds = e i; reply = f i; replies = g i; quantified = h i; rest = k i }
 
 -- ---- masks as sets of names
 no-mask : bit 0 ≡ noNames
@@ -72,36 +72,36 @@ pub record Masks (d : StoredClause) : Type 0 where
 
 abbrev fields : ℕ → StoredClause → StoredClause
 fields k d =
-    record { kind = k; role = d .role; root1 = d .root1; root2 = d .root2; root3 = d .root3; mask1 = d .mask1; mask2 = d .mask2; mask3 = d .mask3 }
+    record { «clause_type» = k; role = d .role; root1 = d .root1; root2 = d .root2; root3 = d .root3; mask1 = d .mask1; mask2 = d .mask2; mask3 = d .mask3 }
 
-task-quantified : (d : StoredClause) → 1 ≤ d .kind → d .kind ≤ 6
-    → bit (taskOf d .quantified) ≡ quantified (stored.kindOf (d .kind)) (bit (d .mask1)) (bit (d .mask2)) (bit (d .mask3))
-unfolding taskOf stored.kindOf quantified
+task-quantified : (d : StoredClause) → 1 ≤ d .«clause_type» → d .«clause_type» ≤ 6
+    → bit (taskOf d .quantified) ≡ quantified (stored.typeOf (d .«clause_type»)) (bit (d .mask1)) (bit (d .mask2)) (bit (d .mask3))
+unfolding taskOf stored.typeOf quantified
 task-quantified d l h =
-    kind-cases (λ k. bit (taskOf (fields k d) .quantified) ≡ quantified (stored.kindOf k) (bit (d .mask1)) (bit (d .mask2)) (bit (d .mask3)))
-    no-mask refl refl refl (both-masks (d .mask1) (d .mask3)) (both-masks (d .mask1) (d .mask3)) (d .kind) l h
+    type-cases (λ k. bit (taskOf (fields k d) .quantified) ≡ quantified (stored.typeOf k) (bit (d .mask1)) (bit (d .mask2)) (bit (d .mask3)))
+    no-mask refl refl refl (both-masks (d .mask1) (d .mask3)) (both-masks (d .mask1) (d .mask3)) (d .«clause_type») l h
 
-task-missed : (x : ℕ → Node) (d : StoredClause) → Masks d → 1 ≤ d .kind → d .kind ≤ 6 → (σ : Trace) (last : ℕ) (ν : Placement) (i j k : ℕ)
+task-missed : (x : ℕ → Node) (d : StoredClause) → Masks d → 1 ≤ d .«clause_type» → d .«clause_type» ≤ 6 → (σ : Trace) (last : ℕ) (ν : Placement) (i j k : ℕ)
     → missedTask x (taskOf d) σ last ν i j k
-    ≡ missedBy (stored.kindOf (d .kind)) (partOf x (d .root1) (d .mask1)) (partOf x (d .root2) (d .mask2)) (partOf x (d .root3) (d .mask3)) σ last ν i j k
-unfolding taskOf kindNumbered stored.kindOf missedTask missedBy missed premise reply quantified partOf
+    ≡ missedBy (stored.typeOf (d .«clause_type»)) (partOf x (d .root1) (d .mask1)) (partOf x (d .root2) (d .mask2)) (partOf x (d .root3) (d .mask3)) σ last ν i j k
+unfolding taskOf typeNumbered stored.typeOf missedTask missedBy missed premise reply quantified partOf
 task-missed x d m l h σ last ν i j k =
-    kind-cases
+    type-cases
     (λ n. missedTask x (taskOf (fields n d)) σ last ν i j k
-    ≡ missedBy (stored.kindOf n) (partOf x (d .root1) (d .mask1)) (partOf x (d .root2) (d .mask2)) (partOf x (d .root3) (d .mask3)) σ last ν i j k)
+    ≡ missedBy (stored.typeOf n) (partOf x (d .root1) (d .mask1)) (partOf x (d .root2) (d .mask2)) (partOf x (d .root3) (d .mask3)) σ last ν i j k)
     (ap (λ (names : Names). missedWith 1 names) (less-mask (d .mask1) 0 (m .first) (omega arith) ∙ ap (without (bit (d .mask1))) no-mask))
     (ap (λ (names : Names). missedWith 2 names) (less-mask (d .mask1) (d .mask2) (m .first) (m .second)))
     refl
     (ap (λ (names : Names). missedWith 4 names) (less-mask (d .mask2) (d .mask1) (m .second) (m .first)))
     (ap (λ (names : Names). missedWith 5 names) late)
     (ap (λ (names : Names). missedWith 6 names) late)
-    (d .kind) l h
+    (d .«clause_type») l h
   where
     missedWith : ℕ → Names → Bool
     missedWith n names =
-        missed (stored.kindOf n) (onInside (premise (stored.kindOf n) (partOf x (d .root1) (d .mask1)) (partOf x (d .root2) (d .mask2))) σ ν)
+        missed (stored.typeOf n) (onInside (premise (stored.typeOf n) (partOf x (d .root1) (d .mask1)) (partOf x (d .root2) (d .mask2))) σ ν)
         (shortInside (partOf x (d .root3) (d .mask3)) σ ν)
-        (answered names (reply (stored.kindOf n) (partOf x (d .root1) (d .mask1)) (partOf x (d .root2) (d .mask2))) σ last ν) i j k
+        (answered names (reply (stored.typeOf n) (partOf x (d .root1) (d .mask1)) (partOf x (d .root2) (d .mask2))) σ last ν) i j k
 
     late : bit (bitAnd (d .mask2) (2 ^ 64 - 1 - bitOr (d .mask1) (d .mask3))) ≡ without (bit (d .mask2)) (union (bit (d .mask1)) (bit (d .mask3)))
     late =
@@ -115,24 +115,24 @@ numbered-placement n last names ν p y =
     sym (and-placement (ltb (y / 4096) n && (ltb (y / 64 % 64) n && ltb (y % 64) n)) noNames names 0 last ν
     (λ ν′. p ν′ (y / 4096) (y / 64 % 64) (y % 64)))
 
-task-breaks : (x : ℕ → Node) (d : StoredClause) (σ : Trace) (last : ℕ) → Masks d → 1 ≤ d .kind → d .kind ≤ 6 → clauseFits (clauseOf x d) ≡ true
+task-breaks : (x : ℕ → Node) (d : StoredClause) (σ : Trace) (last : ℕ) → Masks d → 1 ≤ d .«clause_type» → d .«clause_type» ≤ 6 → clauseFits (clauseOf x d) ≡ true
     → last < length σ → (i j k : ℕ) → j ≤ last → k ≤ last
     → somePlacement noNames (bit (taskOf d .quantified)) 0 last (standing (0 ∷ 0 ∷ 0 ∷ [])) (λ ν. missedTask x (taskOf d) σ last ν i j k) ≡ breaks (clauseOf x d) σ i j k
 unfolding breaks clauseOf clauseFits partOf
 task-breaks x d σ last m l h fit inσ i j k hj hk =
     ap (λ (names : Names). somePlacement noNames names 0 last (standing (0 ∷ 0 ∷ 0 ∷ [])) (λ ν. missedTask x (taskOf d) σ last ν i j k)) (task-quantified d l h)
-    ∙ ap₂ (λ (ν : Placement) (p : Placement → Bool). somePlacement noNames (quantified (stored.kindOf (d .kind)) (bit (d .mask1)) (bit (d .mask2)) (bit (d .mask3))) 0 last ν p)
+    ∙ ap₂ (λ (ν : Placement) (p : Placement → Bool). somePlacement noNames (quantified (stored.typeOf (d .«clause_type»)) (bit (d .mask1)) (bit (d .mask2)) (bit (d .mask3))) 0 last ν p)
     (sym unplaced-stands) (fun-ext (λ ν. task-missed x d m l h σ last ν i j k))
     ∙ sym (out i j k hj hk)
   where
     out : (i j k : ℕ) → j ≤ last → k ≤ last → breaks (clauseOf x d) σ i j k
-        ≡ somePlacement noNames (quantified (stored.kindOf (d .kind)) (bit (d .mask1)) (bit (d .mask2)) (bit (d .mask3))) 0 last unplaced
-        (λ ν. missedBy (stored.kindOf (d .kind)) (partOf x (d .root1) (d .mask1)) (partOf x (d .root2) (d .mask2)) (partOf x (d .root3) (d .mask3)) σ last ν i j k)
+        ≡ somePlacement noNames (quantified (stored.typeOf (d .«clause_type»)) (bit (d .mask1)) (bit (d .mask2)) (bit (d .mask3))) 0 last unplaced
+        (λ ν. missedBy (stored.typeOf (d .«clause_type»)) (partOf x (d .root1) (d .mask1)) (partOf x (d .root2) (d .mask2)) (partOf x (d .root3) (d .mask3)) σ last ν i j k)
     out =
-        breaks-out (stored.kindOf (d .kind)) (partOf x (d .root1) (d .mask1)) (partOf x (d .root2) (d .mask2)) (partOf x (d .root3) (d .mask3)) σ last inσ fit
+        breaks-out (stored.typeOf (d .«clause_type»)) (partOf x (d .root1) (d .mask1)) (partOf x (d .root2) (d .mask2)) (partOf x (d .root3) (d .mask3)) σ last inσ fit
 
 -- the least place over all placements of the quantified names is the clause's
-pub task-least : (x : ℕ → Node) (d : StoredClause) (σ : Trace) (last best r : ℕ) → Masks d → 1 ≤ d .kind → d .kind ≤ 6 → clauseFits (clauseOf x d) ≡ true
+pub task-least : (x : ℕ → Node) (d : StoredClause) (σ : Trace) (last best r : ℕ) → Masks d → 1 ≤ d .«clause_type» → d .«clause_type» ≤ 6 → clauseFits (clauseOf x d) ≡ true
     → length σ ≡ suc last
     → IsLeast best (λ y. somePlacement noNames (bit (taskOf d .quantified)) 0 last (standing (0 ∷ 0 ∷ 0 ∷ [])) (λ ν. numbered (length σ) (missedTask x (taskOf d) σ last ν) y)) r
     → IsLeast best (numbered (length σ) (breaks (clauseOf x d) σ)) r

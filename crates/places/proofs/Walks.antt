@@ -22,7 +22,7 @@ use Rattle.places.specs.declared.walk.Job.{Job}
 use Rattle.places.specs.declared.walk.Spot.{Spot}
 use Rattle.places.specs.Gather.{gathered, Adds, Ends}
 use Rattle.places.specs.Places.{numbered, IsLeast}
-use Rattle.places.specs.Rows.{kindOf, testOf}
+use Rattle.places.specs.Rows.{typeOf, testOf}
 use Rattle.places.specs.Search.{premised, missed}
 use Rattle.places.specs.Laid.{Laid, Formulas, IsFormula, Walkable, Unneeded, Walked, withNext, overLast, missedOn, replyOn, lowOf, lastOf}
 use Rattle.places.proofs.Laying.{laid-again, laid-placed, replies-added, none-premised, place-least, place-none}
@@ -110,18 +110,18 @@ module _ {spot : Spot} {job : Job} {best : ℕ} {nodes reach columns words : Lis
   -- ---- one placement
   module _ {columns′ words′ : List ℕ} (p : Placed nodes (job .count) (job .n) reach (traceOf (job .n) columns) (spot .cycles) columns′ words′) where
     -- the premise has no interval
-    pub find-none : (some : ℕ) → (eqb some 0 && premised (kindOf (job .task .kind))) ≡ true
+    pub find-none : (some : ℕ) → (eqb some 0 && premised (typeOf (job .task .«clause_type»))) ≡ true
         → Ends (job .n) (gathered words′ (job .task .premise) (job .task .premises) false (standing (spot .cycles))) some
         → IsLeast best (λ y. missedOn nodes (traceOf (job .n) columns) (job .n) (job .task) y (standing (spot .cycles))) best
     find-none some e ends =
         none-premised (standing (spot .cycles)) few-cycles (p .tables) (job .task) (w .formulas) best some
-        (and-right (eqb some 0) (premised (kindOf (job .task .kind))) e) (eqb-true some 0 (and-left (eqb some 0) (premised (kindOf (job .task .kind))) e)) ends
+        (and-right (eqb some 0) (premised (typeOf (job .task .«clause_type»))) e) (eqb-true some 0 (and-left (eqb some 0) (premised (typeOf (job .task .«clause_type»))) e)) ends
 
     module _ {first third : List ℕ}
         (a₁ : Adds (job .n) (replicate 64 0) first (gathered words′ (job .task .premise) (job .task .premises) false (standing (spot .cycles))))
         (a₃ : Adds (job .n) (replicate 64 0) third (gathered words′ (job .task .third) (job .task .thirds) true (standing (spot .cycles)))) where
       abbrev Found : List ℕ → ℕ → Type 0
-      Found rows r = IsLeast best (numbered (job .n) (missed (kindOf (job .task .kind)) (testOf first) (testOf third) (testOf rows))) r
+      Found rows r = IsLeast best (numbered (job .n) (missed (typeOf (job .task .«clause_type»)) (testOf first) (testOf third) (testOf rows))) r
 
       abbrev Missed : ℕ → Type 0
       Missed r = IsLeast best (λ y. missedOn nodes (traceOf (job .n) columns) (job .n) (job .task) y (standing (spot .cycles))) r

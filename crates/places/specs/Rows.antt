@@ -8,23 +8,23 @@ use lib.ListN.{getD}
 use Rattle.semantics.specs.Cycles.{someIn}
 use Rattle.semantics.specs.Proposition.{bit}
 use Rattle.semantics.specs.Clause as clause
-use Rattle.places.specs.declared.search.Kind.{Kind}
-use Rattle.places.specs.declared.search.Kind.the-variants.{Pref, Init, Anti, Implies, Follows, Triggers}
+use Rattle.places.specs.declared.search.ClauseType.{ClauseType}
+use Rattle.places.specs.declared.search.ClauseType.the-variants.{Pref, Init, Anti, Implies, Follows, Triggers}
 
-abbrev pub kindOf : Kind → clause.Kind
-kindOf Pref = clause.pref
-kindOf Init = clause.init
-kindOf Anti = clause.anti
-kindOf Implies = clause.implies
-kindOf Follows = clause.follows
-kindOf Triggers = clause.triggers
+abbrev pub typeOf : ClauseType → clause.ClauseType
+typeOf Pref = clause.pref
+typeOf Init = clause.init
+typeOf Anti = clause.anti
+typeOf Implies = clause.implies
+typeOf Follows = clause.follows
+typeOf Triggers = clause.triggers
 
 -- bit e of row b
 unfoldable pub testOf : List ℕ → ℕ → ℕ → Bool
 testOf rows b e = bit (getD rows b 0) e
 
 -- the ends j of intervals from i that may be unanswered, by row i of the premise and of the answers
-unfoldable pub starting : clause.Kind → ℕ → (ℕ → Bool) → (ℕ → Bool) → ℕ → Bool
+unfoldable pub starting : clause.ClauseType → ℕ → (ℕ → Bool) → (ℕ → Bool) → ℕ → Bool
 starting clause.pref i first answers j = eqb i 0 && not (answers j)
 starting clause.init i first answers j = eqb i 0 && (first j && not (someIn 0 j answers))
 starting clause.anti i first answers j = leb i j && first j
@@ -33,7 +33,7 @@ starting clause.follows i first answers j = leb i j && first j
 starting clause.triggers i first answers j = leb i j && first j
 
 -- the cycles k at which the interval from i to j may then be unanswered: where Ξ of D3 ends, or j itself
-unfoldable pub ending : clause.Kind → ℕ → ℕ → (ℕ → ℕ → Bool) → ℕ → Bool
+unfoldable pub ending : clause.ClauseType → ℕ → ℕ → (ℕ → ℕ → Bool) → ℕ → Bool
 ending clause.pref i j third k = eqb k j
 ending clause.init i j third k = eqb k j
 ending clause.anti i j third k = eqb k j
@@ -42,7 +42,7 @@ ending clause.follows i j third k = leb j k && third j k
 ending clause.triggers i j third k = leb i k && third i k
 
 -- no answer comes up to k; what the first four types answer is asked of j already
-unfoldable pub unreplied : clause.Kind → ℕ → ℕ → (ℕ → ℕ → Bool) → ℕ → Bool
+unfoldable pub unreplied : clause.ClauseType → ℕ → ℕ → (ℕ → ℕ → Bool) → ℕ → Bool
 unreplied clause.pref i j answers k = true
 unreplied clause.init i j answers k = true
 unreplied clause.anti i j answers k = true

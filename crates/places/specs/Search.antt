@@ -6,7 +6,7 @@ use lib.Dec.{leb, eqb}
 use Rattle.semantics.specs.Cycles.{someIn}
 use Rattle.semantics.specs.Proposition.{Trace}
 use Rattle.semantics.specs.Placement.{Names, noNames, union, Placement, somePlacement}
-use Rattle.semantics.specs.Clause.{Part, Kind, pref, init, anti, implies, follows, triggers, on, shortest}
+use Rattle.semantics.specs.Clause.{Part, ClauseType, pref, init, anti, implies, follows, triggers, on, shortest}
 
 -- name u stands in [x,y] if the set has it
 unfoldable pub insideName : ℕ → Names → ℕ → ℕ → Placement → Bool
@@ -20,7 +20,7 @@ unfoldable pub without : Names → Names → Names
 without a b u = a u && not (b u)
 
 -- the names that a type quantifies universally, the part that it starts from, and the part that answers
-unfoldable pub quantified : Kind → Names → Names → Names → Names
+unfoldable pub quantified : ClauseType → Names → Names → Names → Names
 quantified pref Θ₁ Θ₂ Θ₃ = noNames
 quantified init Θ₁ Θ₂ Θ₃ = Θ₂
 quantified anti Θ₁ Θ₂ Θ₃ = Θ₁
@@ -28,7 +28,7 @@ quantified implies Θ₁ Θ₂ Θ₃ = Θ₁
 quantified follows Θ₁ Θ₂ Θ₃ = union Θ₁ Θ₃
 quantified triggers Θ₁ Θ₂ Θ₃ = union Θ₁ Θ₃
 
-unfoldable pub premise : {A : Type 0} → Kind → A → A → A
+unfoldable pub premise : {A : Type 0} → ClauseType → A → A → A
 premise pref d₁ d₂ = d₁
 premise init d₁ d₂ = d₂
 premise anti d₁ d₂ = d₁
@@ -36,7 +36,7 @@ premise implies d₁ d₂ = d₁
 premise follows d₁ d₂ = d₁
 premise triggers d₁ d₂ = d₁
 
-unfoldable pub reply : {A : Type 0} → Kind → A → A → A
+unfoldable pub reply : {A : Type 0} → ClauseType → A → A → A
 reply pref d₁ d₂ = d₁
 reply init d₁ d₂ = d₁
 reply anti d₁ d₂ = d₁
@@ -56,7 +56,7 @@ unfoldable pub answered : Names → Part → Trace → ℕ → Placement → ℕ
 answered rest d σ last ν x y = somePlacement noNames rest 0 last ν (λ ν′. onInside d σ ν′ x y)
 
 -- the interval is unanswered at i, j, k, by the three tests
-unfoldable pub missed : Kind → (ℕ → ℕ → Bool) → (ℕ → ℕ → Bool) → (ℕ → ℕ → Bool) → ℕ → ℕ → ℕ → Bool
+unfoldable pub missed : ClauseType → (ℕ → ℕ → Bool) → (ℕ → ℕ → Bool) → (ℕ → ℕ → Bool) → ℕ → ℕ → ℕ → Bool
 missed pref first third answers i j k = eqb i 0 && eqb k j && not (answers 0 j)
 missed init first third answers i j k = eqb i 0 && eqb k j && (first 0 j && not (someIn 0 j (answers 0)))
 missed anti first third answers i j k = leb i j && eqb k j && first i j
@@ -67,7 +67,7 @@ missed triggers first third answers i j k =
     leb i j && leb i k && (first i j && (third i k && not (someIn i k (answers i))))
 
 -- the type starts from a premise
-unfoldable pub premised : Kind → Bool
+unfoldable pub premised : ClauseType → Bool
 premised pref = false
 premised init = true
 premised anti = true
@@ -76,7 +76,7 @@ premised follows = true
 premised triggers = true
 
 -- the same, with the names that the type quantifies standing where ν puts them
-unfoldable pub missedBy : Kind → Part → Part → Part → Trace → ℕ → Placement → ℕ → ℕ → ℕ → Bool
+unfoldable pub missedBy : ClauseType → Part → Part → Part → Trace → ℕ → Placement → ℕ → ℕ → ℕ → Bool
 missedBy κ d₁ d₂ d₃ σ last ν i j k =
     missed κ
     (onInside (premise κ d₁ d₂) σ ν)

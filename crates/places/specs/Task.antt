@@ -10,28 +10,28 @@ use Rattle.semantics.specs.Placement.{Placement}
 use Rattle.stored.specs.declared.Node.{Node}
 use Rattle.stored.specs.declared.StoredClause.{StoredClause}
 use Rattle.stored.specs.Clause.{partOf}
-use Rattle.places.specs.declared.search.Kind.{Kind}
-use Rattle.places.specs.declared.search.Kind.the-variants.{Pref, Init, Anti, Implies, Follows, Triggers}
+use Rattle.places.specs.declared.search.ClauseType.{ClauseType}
+use Rattle.places.specs.declared.search.ClauseType.the-variants.{Pref, Init, Anti, Implies, Follows, Triggers}
 use Rattle.places.specs.declared.task.Task.{Task}
 use Rattle.places.specs.Search.{onInside, shortInside, answered, missed}
-use Rattle.places.specs.Rows.{kindOf}
+use Rattle.places.specs.Rows.{typeOf}
 
 -- types by their numbers, 1 to 6
-unfoldable pub kindNumbered : ℕ → Kind
-kindNumbered k = getD (Pref ∷ Pref ∷ Init ∷ Anti ∷ Implies ∷ Follows ∷ Triggers ∷ []) k Triggers
+unfoldable pub typeNumbered : ℕ → ClauseType
+typeNumbered k = getD (Pref ∷ Pref ∷ Init ∷ Anti ∷ Implies ∷ Follows ∷ Triggers ∷ []) k Triggers
 
 -- A type without Ξ's part takes the first part there: it says nothing.
 unfoldable pub taskOf : StoredClause → Task
 taskOf d =
-    let quantified = cond (eqb (d .kind) 1) 0 (cond (eqb (d .kind) 2) (d .mask2) (cond (ltb (d .kind) 5) (d .mask1) (bitOr (d .mask1) (d .mask3)))) in
-    let replies = cond (ltb (d .kind) 4) (d .mask1) (d .mask2) in
+    let quantified = cond (eqb (d .«clause_type») 1) 0 (cond (eqb (d .«clause_type») 2) (d .mask2) (cond (ltb (d .«clause_type») 5) (d .mask1) (bitOr (d .mask1) (d .mask3)))) in
+    let replies = cond (ltb (d .«clause_type») 4) (d .mask1) (d .mask2) in
     record {
-      kind = kindNumbered (d .kind);
-      premise = cond (eqb (d .kind) 2) (d .root2) (d .root1);
-      premises = cond (eqb (d .kind) 2) (d .mask2) (d .mask1);
-      third = cond (ltb (d .kind) 5) (d .root1) (d .root3);
-      thirds = cond (ltb (d .kind) 5) (d .mask1) (d .mask3);
-      reply = cond (ltb (d .kind) 4) (d .root1) (d .root2);
+      «clause_type» = typeNumbered (d .«clause_type»);
+      premise = cond (eqb (d .«clause_type») 2) (d .root2) (d .root1);
+      premises = cond (eqb (d .«clause_type») 2) (d .mask2) (d .mask1);
+      third = cond (ltb (d .«clause_type») 5) (d .root1) (d .root3);
+      thirds = cond (ltb (d .«clause_type») 5) (d .mask1) (d .mask3);
+      reply = cond (ltb (d .«clause_type») 4) (d .root1) (d .root2);
       replies = replies;
       quantified = quantified;
       rest = bitAnd replies (2 ^ 64 - 1 - quantified);
@@ -40,7 +40,7 @@ taskOf d =
 -- the interval is unanswered at i, j, k, by the task's parts, with the quantified names standing where ν puts them
 unfoldable pub missedTask : (ℕ → Node) → Task → Trace → ℕ → Placement → ℕ → ℕ → ℕ → Bool
 missedTask x t σ last ν i j k =
-    missed (kindOf (t .kind))
+    missed (typeOf (t .«clause_type»))
     (onInside (partOf x (t .premise) (t .premises)) σ ν)
     (shortInside (partOf x (t .third) (t .thirds)) σ ν)
     (answered (bit (t .rest)) (partOf x (t .reply) (t .replies)) σ last ν)

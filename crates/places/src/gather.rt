@@ -1,10 +1,10 @@
 // The three arrays of rows for one placement, gathered from the tables.
 use crate::choice::choose;
 use crate::choice::greater;
-use crate::choice::has_name;
 use crate::choice::lesser;
 use rows::cut::shortest;
 use rows::mask::below;
+use stored::masks::has_name;
 ghost use mathlib.Core.Path.{_≡_};
 ghost use mathlib.Core.Bool.{cond};
 ghost use Prim.Native.Nat.{_+_, _*_, _<_, _≤_};

@@ -14,10 +14,10 @@ ghost use Rattle.semantics.specs.Proposition.{bit};
 ghost use Rattle.rows.specs.Row.{word};
 ghost use Rattle.places.specs.Search.{missed};
 ghost use Rattle.places.specs.Places.{numbered, IsLeast};
-ghost use Rattle.places.specs.Rows.{kindOf, testOf, starting, ending, unreplied, Next};
+ghost use Rattle.places.specs.Rows.{typeOf, testOf, starting, ending, unreplied, Next};
 
 // The types of clauses.
-pub enum Kind {
+pub enum ClauseType {
     Pref,
     Init,
     Anti,
@@ -39,38 +39,38 @@ fn next(set: u64, j: usize) -> usize
 }
 
 // The ends of intervals from i that may be unanswered.
-fn starts(kind: Kind, first: u64, answers: u64, i: usize, n: usize) -> u64
+fn starts(clause_type: ClauseType, first: u64, answers: u64, i: usize, n: usize) -> u64
     requires { ⌜ n ≤ 64 ⌝ }
-    ensures { λ r. ⌜ r ≡ word n (starting (kindOf kind) i (bit first) (bit answers)) ⌝ }
+    ensures { λ r. ⌜ r ≡ word n (starting (typeOf «clause_type») i (bit first) (bit answers)) ⌝ }
 {
-    match kind {
-        Kind::Pref => { if i == 0 { below(n) & !answers } else { 0 } }
-        Kind::Init => {
+    match clause_type {
+        ClauseType::Pref => { if i == 0 { below(n) & !answers } else { 0 } }
+        ClauseType::Init => {
             if i == 0 {
                 below(n) & (first & before_first(answers))
             } else {
                 0
             }
         }
-        Kind::Anti => cycles_from(i, n) & first,
-        Kind::Implies => cycles_from(i, n) & (first & !answers),
-        Kind::Follows => cycles_from(i, n) & first,
-        Kind::Triggers => cycles_from(i, n) & first,
+        ClauseType::Anti => cycles_from(i, n) & first,
+        ClauseType::Implies => cycles_from(i, n) & (first & !answers),
+        ClauseType::Follows => cycles_from(i, n) & first,
+        ClauseType::Triggers => cycles_from(i, n) & first,
     }
 }
 
 // The cycles k at which the interval from i to j may then be unanswered.
-fn ends(kind: Kind, third: &[u64], i: usize, j: usize, n: usize) -> u64
+fn ends(clause_type: ClauseType, third: &[u64], i: usize, j: usize, n: usize) -> u64
     requires { ⌜ (n ≤ 64) × (i < n) × (j < n) × (64 ≤ length (now third)) ⌝ }
-    ensures { λ r. ⌜ r ≡ word n (ending (kindOf kind) i j (testOf (now (third .entry)))) ⌝ }
+    ensures { λ r. ⌜ r ≡ word n (ending (typeOf «clause_type») i j (testOf (now (third .entry)))) ⌝ }
 {
-    match kind {
-        Kind::Pref => only(j),
-        Kind::Init => only(j),
-        Kind::Anti => only(j),
-        Kind::Implies => only(j),
-        Kind::Follows => cycles_from(j, n) & third[j],
-        Kind::Triggers => cycles_from(i, n) & third[i],
+    match clause_type {
+        ClauseType::Pref => only(j),
+        ClauseType::Init => only(j),
+        ClauseType::Anti => only(j),
+        ClauseType::Implies => only(j),
+        ClauseType::Follows => cycles_from(j, n) & third[j],
+        ClauseType::Triggers => cycles_from(i, n) & third[i],
     }
 }
 
@@ -84,23 +84,23 @@ fn none_between(set: u64, s: usize, k: usize) -> bool
 }
 
 // No answer comes up to k.
-fn no_reply(kind: Kind, answers: &[u64], i: usize, j: usize, k: usize) -> bool
+fn no_reply(clause_type: ClauseType, answers: &[u64], i: usize, j: usize, k: usize) -> bool
     requires { ⌜ (i < 64) × (j < 64) × (k < 64) × (64 ≤ length (now answers)) ⌝ }
-    ensures { λ r. ⌜ r ≡ unreplied (kindOf kind) i j (testOf (now (answers .entry))) k ⌝ }
+    ensures { λ r. ⌜ r ≡ unreplied (typeOf «clause_type») i j (testOf (now (answers .entry))) k ⌝ }
 {
-    match kind {
-        Kind::Pref => true,
-        Kind::Init => true,
-        Kind::Anti => true,
-        Kind::Implies => true,
-        Kind::Follows => none_between(answers[j], j, k),
-        Kind::Triggers => none_between(answers[i], i, k),
+    match clause_type {
+        ClauseType::Pref => true,
+        ClauseType::Init => true,
+        ClauseType::Anti => true,
+        ClauseType::Implies => true,
+        ClauseType::Follows => none_between(answers[j], j, k),
+        ClauseType::Triggers => none_between(answers[i], i, k),
     }
 }
 
 // The number of the first unanswered place by i, then j, then k, of those before the best so far; that one where there is none.
 pub fn search(
-    kind: Kind,
+    clause_type: ClauseType,
     first: &[u64],
     third: &[u64],
     answers: &[u64],
@@ -109,19 +109,19 @@ pub fn search(
 ) -> usize
     requires { ⌜ (n ≤ 64) × (best ≤ 262144) ⌝ }
     requires { ⌜ (64 ≤ length (now first)) × (64 ≤ length (now third)) × (64 ≤ length (now answers)) ⌝ }
-    ensures { λ r. ⌜ IsLeast best (numbered n (missed (kindOf kind) (testOf (now (first .entry))) (testOf (now (third .entry))) (testOf (now (answers .entry))))) r ⌝ }
+    ensures { λ r. ⌜ IsLeast best (numbered n (missed (typeOf «clause_type») (testOf (now (first .entry))) (testOf (now (third .entry))) (testOf (now (answers .entry))))) r ⌝ }
 {
     let rows = lesser(n, (best + 4095) / 4096);
     let mut place = best;
     let mut i = 0;
     'places: while i < rows {
-        let from = starts(kind, first[i], answers[i], i, n);
+        let from = starts(clause_type, first[i], answers[i], i, n);
         let mut j = next(from, 0);
         while j < n {
-            let to = ends(kind, third, i, j, n);
+            let to = ends(clause_type, third, i, j, n);
             let mut k = next(to, 0);
             while k < n {
-                if no_reply(kind, answers, i, j, k) {
+                if no_reply(clause_type, answers, i, j, k) {
                     place = lesser(i * 4096 + j * 64 + k, best);
                     break 'places;
                 }

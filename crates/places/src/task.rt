@@ -1,15 +1,15 @@
 // What the check does for one clause.
 use crate::choice::choose;
-use crate::search::Kind;
+use crate::search::ClauseType;
 use stored::StoredClause;
 ghost use mathlib.Core.Path.{_≡_};
 ghost use Prim.Native.Nat.{_≤_};
-ghost use Rattle.places.specs.Task.{kindNumbered, taskOf};
+ghost use Rattle.places.specs.Task.{typeNumbered, taskOf};
 
 // The nodes of the part that a clause starts from, of Ξ's part and of the part that answers, each with its names as a mask; the
 // names that are quantified universally; and those of the answer that are left.
 pub struct Task {
-    pub kind: Kind,
+    pub clause_type: ClauseType,
     pub premise: usize,
     pub premises: usize,
     pub third: usize,
@@ -20,29 +20,29 @@ pub struct Task {
     pub rest: usize,
 }
 
-fn kind_numbered(number: usize) -> Kind
+fn type_numbered(number: usize) -> ClauseType
     requires { ⌜ (1 ≤ number) × (number ≤ 6) ⌝ }
-    ensures { λ r. ⌜ r ≡ kindNumbered number ⌝ }
+    ensures { λ r. ⌜ r ≡ typeNumbered number ⌝ }
 {
     match number {
-        1 => Kind::Pref,
-        2 => Kind::Init,
-        3 => Kind::Anti,
-        4 => Kind::Implies,
-        5 => Kind::Follows,
-        _ => Kind::Triggers,
+        1 => ClauseType::Pref,
+        2 => ClauseType::Init,
+        3 => ClauseType::Anti,
+        4 => ClauseType::Implies,
+        5 => ClauseType::Follows,
+        _ => ClauseType::Triggers,
     }
 }
 
 pub fn task_of(d: StoredClause) -> Task
-    requires { ⌜ (1 ≤ d .kind) × (d .kind ≤ 6) ⌝ }
+    requires { ⌜ (1 ≤ d .«clause_type») × (d .«clause_type» ≤ 6) ⌝ }
     ensures { λ r. ⌜ r ≡ taskOf d ⌝ }
 {
-    let number = d.kind;
+    let number = d.clause_type;
     let two = number == 2;
     let early = number < 5;
     let same = number < 4;
-    let kind = kind_numbered(number);
+    let clause_type = type_numbered(number);
     let premise = choose(two, d.root2, d.root1);
     let premises = choose(two, d.mask2, d.mask1);
     let third = choose(early, d.root1, d.root3);
@@ -53,7 +53,7 @@ pub fn task_of(d: StoredClause) -> Task
     let quantified = choose(number == 1, 0, choose(two, d.mask2, late));
     let rest = replies & !quantified;
     Task {
-        kind,
+        clause_type,
         premise,
         premises,
         third,

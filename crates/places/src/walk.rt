@@ -1,11 +1,11 @@
 // The walk over placements: every cycle for each name that a clause quantifies universally and, within, for each name of its answer
 // that is left. It looks for the first broken place, and only before the best one so far.
 use crate::choice::choose;
-use crate::choice::has_name;
 use crate::gather::add;
-use crate::search::Kind;
+use crate::search::ClauseType;
 use crate::search::search;
 use crate::task::Task;
+use stored::masks::has_name;
 use tables::fill::lay;
 use tables::words::clear;
 ghost use mathlib.Core.Path.{_≡_};
@@ -18,7 +18,7 @@ ghost use Rattle.tables.specs.Table.{standing};
 ghost use Rattle.places.specs.Gather.{Adds};
 ghost use Rattle.places.specs.Laid.{Laid, Walkable, Unneeded, Walked, withNext, overLast, replyOn, missedOn};
 ghost use Rattle.places.specs.Places.{IsLeast};
-ghost use Rattle.places.specs.Rows.{kindOf};
+ghost use Rattle.places.specs.Rows.{typeOf};
 ghost use Rattle.places.specs.Search.{premised};
 
 // Which names are placed and where: the last ones, as many as are left, are not yet.
@@ -70,16 +70,16 @@ fn hopeless(
 }
 
 // Every type but pref starts from a premise.
-fn is_premised(kind: Kind) -> bool
-    ensures { λ r. ⌜ r ≡ premised (kindOf kind) ⌝ }
+fn is_premised(clause_type: ClauseType) -> bool
+    ensures { λ r. ⌜ r ≡ premised (typeOf «clause_type») ⌝ }
 {
-    match kind {
-        Kind::Pref => false,
-        Kind::Init => true,
-        Kind::Anti => true,
-        Kind::Implies => true,
-        Kind::Follows => true,
-        Kind::Triggers => true,
+    match clause_type {
+        ClauseType::Pref => false,
+        ClauseType::Init => true,
+        ClauseType::Anti => true,
+        ClauseType::Implies => true,
+        ClauseType::Follows => true,
+        ClauseType::Triggers => true,
     }
 }
 
@@ -129,7 +129,7 @@ fn find(
     let count = job.count;
     let n = job.n;
     let cycles = spot.cycles;
-    let kind = task.kind;
+    let clause_type = task.clause_type;
     lay(nodes, count, n, reach, cycles, columns, words);
     let mut first = [0u64; 64];
     let some = add(
@@ -141,13 +141,13 @@ fn find(
         n,
         &mut first,
     );
-    if (some == 0) & is_premised(kind) {
+    if (some == 0) & is_premised(clause_type) {
         return best;
     }
     let mut third = [0u64; 64];
     let _ = add(words, task.third, task.thirds, true, cycles, n, &mut third);
     clear(rows);
-    let open = search(kind, &first, &third, rows, n, best);
+    let open = search(clause_type, &first, &third, rows, n, best);
     if open == best {
         return best;
     }
@@ -168,7 +168,7 @@ fn find(
         words,
         rows,
     );
-    search(kind, &first, &third, rows, n, best)
+    search(clause_type, &first, &third, rows, n, best)
 }
 
 // Every completion of the spot: the least unanswered place before the best, or the answers added to the rows.

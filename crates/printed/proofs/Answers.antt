@@ -6,6 +6,7 @@ use native.Mathlib.Omega.{arith}
 use lib.Dec.{leb}
 use lib.ListN.{length, getD, take, drop, replicate, length-drop, length-replicate}
 use lib.Seq.{take-all}
+use Rattle.stored.specs.Layout.{leastWords}
 use Rattle.stored.specs.Bytes.{word, lowest}
 use Rattle.stored.specs.Sheet.{headerOf, nodesOf, sheetRefusal}
 use Rattle.stored.specs.Trace.{cycleCount, cyclesOf, traceRefusal}
@@ -34,17 +35,17 @@ answer-words s t node p0 p1 p2 v w e =
     answerFor
     (orElse (sheetRefusal s)
     (orElse (traceRefusal (headerOf s .signals) t)
-    (orElse (lowest 15 (leb 4096 n ∷ []))
+    (orElse (lowest 15 (leb leastWords n ∷ []))
     (nodeRefusal (nodesOf s) (headerOf s .nodes) (cycleCount t) (headerOf s .names) node p0 p1 p2))))
     (tableOf (nodesOf s) (cyclesOf t) node (placementOf (headerOf s .names) p0 p1 p2)))
     e
 
 pub answer-is : (input body s t : List ℕ) (node p0 p1 p2 end : ℕ) (words : List ℕ) → body ≡ drop 5 input → end ≡ splitAt body → s ≡ take end body → t ≡ drop end body
-    → node ≡ word input 0 → p0 ≡ getD input 2 0 → p1 ≡ getD input 3 0 → p2 ≡ getD input 4 0 → 4096 ≡ length words
+    → node ≡ word input 0 → p0 ≡ getD input 2 0 → p1 ≡ getD input 3 0 → p2 ≡ getD input 4 0 → leastWords ≡ length words
     → tableAnswer s t node p0 p1 p2 words ≡ answerTo input
 unfolding answerTo sheetOf traceOf
 answer-is input body s t node p0 p1 p2 end words b e f g h i j k l =
-    answer-words s t node p0 p1 p2 words (replicate 4096 0) (sym l ∙ sym (length-replicate {A = ℕ} 4096 0))
+    answer-words s t node p0 p1 p2 words (replicate leastWords 0) (sym l ∙ sym (length-replicate {A = ℕ} leastWords 0))
     ∙ rw (f, g, e, b, h, i, j, k)
 
 -- ---- the program's input as the check's
@@ -52,8 +53,8 @@ check-words : (s t v w : List ℕ) → length v ≡ length w → checkAnswer s t
 unfolding checkAnswer checkRefusal wordsRefusal
 check-words s t v w e = rw e
 
-pub check-is : (input s t : List ℕ) (end : ℕ) (words : List ℕ) → end ≡ splitAt input → s ≡ take end input → t ≡ drop end input → 4096 ≡ length words
+pub check-is : (input s t : List ℕ) (end : ℕ) (words : List ℕ) → end ≡ splitAt input → s ≡ take end input → t ≡ drop end input → leastWords ≡ length words
     → checkAnswer s t words ≡ line.answerFor input
 unfolding line.answerFor sheetOf traceOf
 check-is input s t end words e f g l =
-    check-words s t words (replicate 4096 0) (sym l ∙ sym (length-replicate {A = ℕ} 4096 0)) ∙ rw (f, g, e)
+    check-words s t words (replicate leastWords 0) (sym l ∙ sym (length-replicate {A = ℕ} leastWords 0)) ∙ rw (f, g, e)

@@ -9,6 +9,7 @@ use borrow.Author.Tests.{eqb-true, le-ltb}
 use lib.Dec.{eqb, ltb}
 use lib.ListN.{length, take, drop, replicate, length-take, length-replicate}
 use lib.Seq.{sets-eq, take-at}
+use Rattle.stored.specs.Layout.{leastOutput}
 use Rattle.stored.specs.Bytes.{framedFrom}
 use Rattle.stored.specs.Sheet.{framed, sheetRules, sheetRefusal}
 use Rattle.stored.specs.Emitted.{isEmitted}
@@ -32,12 +33,12 @@ refusal-small s =
     ]
 
 -- 14 does not apply
-same-refusal : (s : List ℕ) (size : ℕ) → 8192 ≤ size → translateRefusal s size ≡ sheetRefusal s
+same-refusal : (s : List ℕ) (size : ℕ) → leastOutput ≤ size → translateRefusal s size ≡ sheetRefusal s
 unfolding translateRefusal
 same-refusal s size h = go (eqb (sheetRefusal s) 0) refl
   where
-    go : (b : Bool) → eqb (sheetRefusal s) 0 ≡ b → cond b (cond (ltb size 8192) 14 0) (sheetRefusal s) ≡ sheetRefusal s
-    go true e = rw (le-ltb size 8192 h) (sym (eqb-true (sheetRefusal s) 0 e))
+    go : (b : Bool) → eqb (sheetRefusal s) 0 ≡ b → cond b (cond (ltb size leastOutput) 14 0) (sheetRefusal s) ≡ sheetRefusal s
+    go true e = rw (le-ltb size leastOutput h) (sym (eqb-true (sheetRefusal s) 0 e))
     go false e = refl
 
 -- no formula is empty
@@ -45,10 +46,10 @@ not-empty : (s y : List ℕ) → FormulaOf s (take 0 y) → ⊥
 unfolding isEmitted framed framedFrom
 not-empty s y h = false≢true (h .form)
 
-big : (x : List ℕ) → x ≡ replicate 8192 0 → 8192 ≤ length x
-big x blank = let size = ap length blank ∙ length-replicate {A = ℕ} 8192 0 in omega arith
+big : (x : List ℕ) → x ≡ replicate leastOutput 0 → leastOutput ≤ length x
+big x blank = let size = ap length blank ∙ length-replicate {A = ℕ} leastOutput 0 in omega arith
 
-module _ {s x y : List ℕ} (blank : x ≡ replicate 8192 0) where
+module _ {s x y : List ℕ} (blank : x ≡ replicate leastOutput 0) where
   written : (size : ℕ) → Translated s x y (Written size) → OutputOf s (record { bytes = y; length = size })
   unfolding translateNumber writtenLength
   written size t =

@@ -3,6 +3,7 @@ use Prim.Native.Nat.{ℕ, _≤_}
 use mathlib.Core.List.{List}
 use mathlib.Core.Path.{_≡_}
 use lib.ListN.{length, take, drop, replicate}
+use Rattle.stored.specs.Layout.{leastOutput}
 use Rattle.stored.specs.Sheet.{sheetRefusal}
 use Rattle.translator.specs.Translated.{FormulaOf}
 use Rattle.printed.specs.declared.formula.Output.{Output}
@@ -13,4 +14,4 @@ pub record OutputOf (s : List ℕ) (r : Output) : Type 0 where
   pub inside : r .length ≤ length (r .bytes)
   pub refused : (sheetRefusal s ≡ 0 → ⊥) → take (r .length) (r .bytes) ≡ refusedText (sheetRefusal s)
   pub formula : sheetRefusal s ≡ 0 → FormulaOf s (take (r .length) (r .bytes))
-  pub later : drop (r .length) (r .bytes) ≡ drop (r .length) (replicate 8192 0)
+  pub later : drop (r .length) (r .bytes) ≡ drop (r .length) (replicate leastOutput 0)

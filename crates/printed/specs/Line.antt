@@ -2,6 +2,7 @@
 use Prim.Native.Nat.{ℕ}
 use mathlib.Core.List.{List, [], _∷_}
 use lib.ListN.{length, replicate}
+use Rattle.stored.specs.Layout.{leastWords}
 use Rattle.checker.specs.declared.check.Place.{Place}
 use Rattle.checker.specs.declared.check.Answer.{Answer}
 use Rattle.checker.specs.declared.check.Answer.the-variants.{Refused, Excused, Broken, Holds}
@@ -34,7 +35,7 @@ lineOf l = record { bytes = padded 24 l; length = length l }
 
 -- the check's answer to the program's input, over words enough
 unfoldable pub answerFor : List ℕ → Answer
-answerFor l = checkAnswer (sheetOf l) (traceOf l) (replicate 4096 0)
+answerFor l = checkAnswer (sheetOf l) (traceOf l) (replicate leastWords 0)
 
 unfoldable pub lineFor : List ℕ → List ℕ
 lineFor l = lineText (answerFor l)

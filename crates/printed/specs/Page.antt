@@ -5,6 +5,7 @@ use mathlib.Core.List.{List}
 use lib.Dec.{ltb, eqb}
 use lib.ListN.{length, getD, drop, replicate}
 use Rattle.stored.specs.Bytes.{word, inOrder}
+use Rattle.stored.specs.Layout.{leastWords}
 use Rattle.stored.specs.Tree.{pick}
 use Rattle.checker.specs.declared.table.TableAnswer.{TableAnswer}
 use Rattle.checker.specs.Table.{tableAnswer}
@@ -36,7 +37,7 @@ pageOf l = record { bytes = padded 1088 l; length = length l }
 -- The program's input is the node in two bytes, a byte for each of the three cycles, and the sheet with the trace.
 unfoldable pub answerTo : List ℕ → TableAnswer
 answerTo l =
-    tableAnswer (sheetOf (drop 5 l)) (traceOf (drop 5 l)) (word l 0) (getD l 2 0) (getD l 3 0) (getD l 4 0) (replicate 4096 0)
+    tableAnswer (sheetOf (drop 5 l)) (traceOf (drop 5 l)) (word l 0) (getD l 2 0) (getD l 3 0) (getD l 4 0) (replicate leastWords 0)
 
 unfoldable pub printedFor : List ℕ → List ℕ
 printedFor l = textOf (answerTo l .refused) (answerTo l .rows)

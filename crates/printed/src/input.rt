@@ -1,8 +1,10 @@
 // A program's input: fields, then a sheet and a trace. Bytes that the input lacks count as zero.
+use stored::layout::LEAST_WORDS;
 ghost use mathlib.Core.Path.{_≡_};
 ghost use Prim.Native.Nat.{_+_, _<_, _≤_};
 ghost use lib.ListN.{length, getD};
 ghost use Rattle.stored.specs.Bytes.{word};
+ghost use Rattle.stored.specs.Layout.{leastWords};
 ghost use Rattle.printed.specs.Input.{splitAt};
 
 pub fn byte_at(input: &[u8], k: usize) -> usize
@@ -30,8 +32,8 @@ pub fn split(input: &[u8]) -> usize
 }
 
 // The words that a program lends.
-pub fn lent_words() -> [u64; 4096]
-    ensures { λ r. ⌜ 4096 ≡ length r ⌝ }
+pub fn lent_words() -> [u64; LEAST_WORDS]
+    ensures { λ r. ⌜ leastWords ≡ length r ⌝ }
 {
-    [0; 4096]
+    [0; LEAST_WORDS]
 }

@@ -10,7 +10,7 @@ use Rattle.semantics.specs.Cycles.{someIn}
 use Rattle.semantics.specs.Proposition.{Trace, Marks}
 use Rattle.semantics.specs.Formula.{Formula, disjunction, unmarked, trueOf}
 use Rattle.semantics.specs.Placement.{Names, noNames, everyName, union, listed, Placement, unplaced, somePlacement}
-use Rattle.semantics.specs.Clause.{Part, Kind, pref, init, anti, implies, follows, triggers, Role, assumption, commitment, Clause, on, given, shortest, unanswered, breaksAt, breaks, fails}
+use Rattle.semantics.specs.Clause.{Part, ClauseType, pref, init, anti, implies, follows, triggers, Role, assumption, commitment, Clause, on, given, shortest, unanswered, breaksAt, breaks, fails}
 use Rattle.semantics.specs.Verdict.{hasRole, failsAs, someFails, requirement}
 use Rattle.semantics.specs.Reach.{fits, partsFit, clauseFits, allFit}
 use Rattle.semantics.specs.Translation.{undrawn, placed, once, unansweredOf, brokenOf, brokenClause, joinBroken, translation}
@@ -194,34 +194,34 @@ module _ (σ : Trace) (positive : 0 < length σ) where
         (prefix-is (λ k. somePlacement everyName (d₃ .names) i k ν (unmet d₁ d₂ d₃ σ i k))
         (λ k p q. unmet-is i k p q (stands-narrower i k (omega arith) q s)))))))
 
-  kind-is : (κ : Kind) (d₁ d₂ d₃ : Part) → partsFit κ d₁ d₂ d₃ ≡ true
+  type-is : (κ : ClauseType) (d₁ d₂ d₃ : Part) → partsFit κ d₁ d₂ d₃ ≡ true
       → Says (brokenOf κ (undrawn (d₁ .formula)) (d₁ .names) (undrawn (d₂ .formula)) (d₂ .names) (undrawn (d₃ .formula)) (d₃ .names)) σ unmarked 0 last
       (someThree (length σ) (breaksAt κ d₁ d₂ d₃ σ))
   unfolding partsFit breaksAt
-  kind-is pref d₁ d₂ d₃ w =
+  type-is pref d₁ d₂ d₃ w =
       says-as (sym (from-start (length σ) positive (λ j. not (given noNames unplaced d₁ σ 0 j)))) (pref-is d₁ d₂ d₃ w)
-  kind-is init d₁ d₂ d₃ w =
+  type-is init d₁ d₂ d₃ w =
       says-as (sym (from-start (length σ) positive
       (λ j. somePlacement noNames (d₂ .names) 0 j unplaced (λ ν. on d₂ σ ν 0 j && not (someIn 0 j (λ l. given (d₂ .names) ν d₁ σ 0 l))))))
       (init-is d₁ d₂ d₃ (and-left (fits d₁) (fits d₂) w) (and-right (fits d₁) (fits d₂) w))
-  kind-is anti d₁ d₂ d₃ w =
+  type-is anti d₁ d₂ d₃ w =
       says-as (sym (on-intervals (length σ) positive (λ i j. given noNames unplaced d₁ σ i j))) (anti-is d₁ d₂ d₃ w)
-  kind-is implies d₁ d₂ d₃ w =
+  type-is implies d₁ d₂ d₃ w =
       says-as (sym (on-intervals (length σ) positive
       (λ i j. somePlacement noNames (d₁ .names) i j unplaced (λ ν. on d₁ σ ν i j && not (given (d₁ .names) ν d₂ σ i j)))))
       (implies-is d₁ d₂ d₃ (and-left (fits d₁) (fits d₂) w) (and-right (fits d₁) (fits d₂) w))
-  kind-is follows d₁ d₂ d₃ w =
+  type-is follows d₁ d₂ d₃ w =
       let r = and-right (fits d₁) (fits d₂ && fits d₃) w in
       says-as (sym (on-answers (length σ) positive (λ i j. j) (λ i j k. unanswered d₁ d₂ d₃ σ i j j k)))
       (follows-is d₁ d₂ d₃ (and-left (fits d₁) (fits d₂ && fits d₃) w) (and-left (fits d₂) (fits d₃) r) (and-right (fits d₂) (fits d₃) r))
-  kind-is triggers d₁ d₂ d₃ w =
+  type-is triggers d₁ d₂ d₃ w =
       let r = and-right (fits d₁) (fits d₂ && fits d₃) w in
       says-as (sym (on-answers (length σ) positive (λ i j. i) (λ i j k. unanswered d₁ d₂ d₃ σ i j i k)))
       (triggers-is d₁ d₂ d₃ (and-left (fits d₁) (fits d₂ && fits d₃) w) (and-left (fits d₂) (fits d₃) r) (and-right (fits d₂) (fits d₃) r))
 
   clause-is : (c : Clause) → clauseFits c ≡ true → Says (brokenClause c) σ unmarked 0 last (fails c σ)
   unfolding clauseFits brokenClause fails breaks someThree
-  clause-is c w = kind-is (c .kind) (c .first) (c .second) (c .third) w
+  clause-is c w = type-is (c .type) (c .first) (c .second) (c .third) w
 
   joined-is : (r : Role) (cs : List Clause) (f : Formula) (p : Bool) → allFit cs ≡ true → Says f σ unmarked 0 last p
       → Says (joinBroken r f cs) σ unmarked 0 last (p || someFails r cs σ)

@@ -10,7 +10,7 @@ use lib.Dec.{ltb, eqb}
 use Rattle.semantics.specs.Proposition.{Proposition, never, always, signal, name, negated, bothOf, eitherOf}
 use Rattle.semantics.specs.Formula.{Formula, point, stretch, whole, unit, chop, conjunction, disjunction, star, slen, scount, sdur, drawn, at, gap, negation, forSome, Symbol, low, high, either, lowStretch, highStretch, eitherStretch, steady}
 use Rattle.semantics.specs.Placement.{Names, noNames, everyName, union, listed}
-use Rattle.semantics.specs.Clause.{Part, Kind, pref, init, anti, implies, follows, triggers, Role, assumption, commitment, Clause}
+use Rattle.semantics.specs.Clause.{Part, ClauseType, pref, init, anti, implies, follows, triggers, Role, assumption, commitment, Clause}
 use Rattle.semantics.specs.Verdict.{hasRole}
 use Rattle.semantics.specs.Reach.{propositionWithin, with, within, fits, partsFit, clauseFits, allFit}
 use Rattle.semantics.specs.Translation.{anywhere, extended, nothing, undrawnSymbol, undrawnMark, undrawnGap, undrawn, onceName, placedName, placed, once, shortestOf, unansweredOf, brokenOf, brokenClause, joinBroken, translation}
@@ -225,7 +225,7 @@ unanswered-within d₁ d₂ d₃ w₂ w₃ =
     both (once-within K (d₃ .names) _ third (both short (both short refl)))
     (both (placed-part K Θ d₂ w₂ (λ u e b. own Θ noNames u (listed-too (d₂ .names) Θ u e b))) refl)
 
-broken-within : (κ : Kind) (d₁ d₂ d₃ : Part) → partsFit κ d₁ d₂ d₃ ≡ true
+broken-within : (κ : ClauseType) (d₁ d₂ d₃ : Part) → partsFit κ d₁ d₂ d₃ ≡ true
     → within noNames (brokenOf κ (undrawn (d₁ .formula)) (d₁ .names) (undrawn (d₂ .formula)) (d₂ .names) (undrawn (d₃ .formula)) (d₃ .names)) ≡ true
 unfolding partsFit brokenOf within anywhere
 broken-within pref d₁ d₂ d₃ w = both (placed-part noNames noNames d₁ w (λ u e b. b)) refl
@@ -262,7 +262,7 @@ unfolding allFit joinBroken clauseFits brokenClause within
 join-within r f [] w e = e
 join-within r f (c ∷ cs) w e =
     join-within r _ cs (and-right (clauseFits c) (allFit cs) w)
-    (go (hasRole r c) (broken-within (c .kind) (c .first) (c .second) (c .third) (and-left (clauseFits c) (allFit cs) w)))
+    (go (hasRole r c) (broken-within (c .type) (c .first) (c .second) (c .third) (and-left (clauseFits c) (allFit cs) w)))
   where
     go : (a : Bool) → within noNames (brokenClause c) ≡ true → within noNames (cond a (disjunction f (brokenClause c)) f) ≡ true
     go true x = both e x

@@ -11,7 +11,7 @@ use borrow.Author.Tests.{leb-true, le-leb, eqb-true, eq-eqb}
 use Rattle.semantics.specs.Cycles.{someFrom, someIn}
 use Rattle.semantics.specs.Proposition.{Trace}
 use Rattle.semantics.specs.Placement.{Names, noNames, union, listed, Placement, unplaced, somePlacement}
-use Rattle.semantics.specs.Clause.{Part, Kind, pref, init, anti, implies, follows, triggers, on, given, shortest, unanswered, breaksAt}
+use Rattle.semantics.specs.Clause.{Part, ClauseType, pref, init, anti, implies, follows, triggers, on, given, shortest, unanswered, breaksAt}
 use Rattle.semantics.specs.Reach.{fits, partsFit}
 use Rattle.semantics.proofs.Tests.{test, and-intro, and-left, and-right, and-false-right, not-is-false, not-intro, not-elim}
 use Rattle.semantics.proofs.Cycles.{some-intro, some-elim, some-cong}
@@ -43,7 +43,7 @@ pub record Unanswered (d₁ d₂ d₃ : Part) (σ : Trace) (i j s k : ℕ) : Typ
   pub nobody : (l : ℕ) → s ≤ l → l ≤ k → (ν₂ : Placement) → On d₂ σ s l ν₂ → Agree (d₁ .names) (d₂ .names) ν₁ ν₂
       → Agree (d₃ .names) (d₂ .names) ν₃ ν₂ → ⊥
 
-abbrev pub Breaks : Kind → Part → Part → Part → Trace → ℕ → ℕ → ℕ → Type 0
+abbrev pub Breaks : ClauseType → Part → Part → Part → Trace → ℕ → ℕ → ℕ → Type 0
 Breaks pref d₁ d₂ d₃ σ i j k = (i ≡ 0) × (k ≡ j) × ((ν₁ : Placement) → On d₁ σ 0 j ν₁ → ⊥)
 Breaks init d₁ d₂ d₃ σ i j k =
     (i ≡ 0) × (k ≡ j)
@@ -241,7 +241,7 @@ second-agrees Θ Θ′ ν ν′ f u a b = sym (over-on Θ ν unplaced u a) ∙ s
 agrees-second : (Θ Θ′ : Names) (ν ν′ : Placement) → Agree Θ Θ′ ν ν′ → (u : ℕ) → listed Θ′ u ≡ true → Θ u ≡ true → ν′ u ≡ ν u
 agrees-second Θ Θ′ ν ν′ f u l b = sym (f u (listed-too Θ′ Θ u l b) l)
 
-breaks-to : (κ : Kind) (d₁ d₂ d₃ : Part) (σ : Trace) → partsFit κ d₁ d₂ d₃ ≡ true → (i j k : ℕ) → j < length σ → k < length σ
+breaks-to : (κ : ClauseType) (d₁ d₂ d₃ : Part) (σ : Trace) → partsFit κ d₁ d₂ d₃ ≡ true → (i j k : ℕ) → j < length σ → k < length σ
     → Breaks κ d₁ d₂ d₃ σ i j k → breaksAt κ d₁ d₂ d₃ σ i j k ≡ true
 unfolding partsFit breaksAt
 breaks-to pref d₁ d₂ d₃ σ w i j k jn kn (p, q, r) =
@@ -279,7 +279,7 @@ breaks-to triggers d₁ d₂ d₃ σ w i j k jn kn (p, q, r) =
     (unanswered-to d₁ d₂ d₃ σ (and-left (fits d₁) (fits d₂ && fits d₃) w) (and-left (fits d₂) (fits d₃) w′) (and-right (fits d₂) (fits d₃) w′)
     i j i k p jn q kn r)
 
-breaks-from : (κ : Kind) (d₁ d₂ d₃ : Part) (σ : Trace) → partsFit κ d₁ d₂ d₃ ≡ true → (i j k : ℕ) → j < length σ → k < length σ
+breaks-from : (κ : ClauseType) (d₁ d₂ d₃ : Part) (σ : Trace) → partsFit κ d₁ d₂ d₃ ≡ true → (i j k : ℕ) → j < length σ → k < length σ
     → breaksAt κ d₁ d₂ d₃ σ i j k ≡ true → Breaks κ d₁ d₂ d₃ σ i j k
 unfolding partsFit breaksAt
 breaks-from pref d₁ d₂ d₃ σ w i j k jn kn h =
@@ -343,7 +343,7 @@ breaks-from triggers d₁ d₂ d₃ σ w i j k jn kn h =
           i j i k l jn m kn (a .2),
     )
 
-pub breaks-reading : (κ : Kind) (d₁ d₂ d₃ : Part) (σ : Trace) → partsFit κ d₁ d₂ d₃ ≡ true → (i j k : ℕ) → j < length σ → k < length σ
+pub breaks-reading : (κ : ClauseType) (d₁ d₂ d₃ : Part) (σ : Trace) → partsFit κ d₁ d₂ d₃ ≡ true → (i j k : ℕ) → j < length σ → k < length σ
     → (breaksAt κ d₁ d₂ d₃ σ i j k ≡ true) ↔ Breaks κ d₁ d₂ d₃ σ i j k
 breaks-reading κ d₁ d₂ d₃ σ w i j k jn kn =
     (breaks-from κ d₁ d₂ d₃ σ w i j k jn kn, breaks-to κ d₁ d₂ d₃ σ w i j k jn kn)

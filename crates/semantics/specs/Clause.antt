@@ -13,14 +13,14 @@ pub record Part : Type 0 where
   pub formula : Formula
   pub names : Names
 
-pub data Kind : Type 0 where
-  pref init anti implies follows triggers : Kind
+pub data ClauseType : Type 0 where
+  pref init anti implies follows triggers : ClauseType
 
 pub data Role : Type 0 where
   assumption commitment : Role
 
 pub record Clause : Type 0 where
-  pub kind : Kind
+  pub type : ClauseType
   pub role : Role
   pub first : Part
   pub second : Part
@@ -47,7 +47,7 @@ unanswered d₁ d₂ d₃ σ i j s k =
     (λ ν′. shortest d₃ σ ν′ s k && not (someIn s k (λ l. given (union (d₁ .names) (d₃ .names)) ν′ d₂ σ s l))))
 
 -- the clause is broken at i, j, k; a broken place has i = 0 for pref and init, and k = j for the first four types
-unfoldable pub breaksAt : Kind → Part → Part → Part → Trace → ℕ → ℕ → ℕ → Bool
+unfoldable pub breaksAt : ClauseType → Part → Part → Part → Trace → ℕ → ℕ → ℕ → Bool
 breaksAt pref d₁ d₂ d₃ σ i j k = eqb i 0 && eqb k j && not (given noNames unplaced d₁ σ 0 j)
 breaksAt init d₁ d₂ d₃ σ i j k =
     eqb i 0 && eqb k j
@@ -61,7 +61,7 @@ breaksAt follows d₁ d₂ d₃ σ i j k = leb i j && leb j k && unanswered d₁
 breaksAt triggers d₁ d₂ d₃ σ i j k = leb i j && leb i k && unanswered d₁ d₂ d₃ σ i j i k
 
 unfoldable pub breaks : Clause → Trace → ℕ → ℕ → ℕ → Bool
-breaks c σ i j k = breaksAt (c .kind) (c .first) (c .second) (c .third) σ i j k
+breaks c σ i j k = breaksAt (c .type) (c .first) (c .second) (c .third) σ i j k
 
 -- a clause holds exactly if it is broken at no cycles i, j, k
 unfoldable pub fails : Clause → Trace → Bool

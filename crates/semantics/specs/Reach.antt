@@ -6,7 +6,7 @@ use lib.Dec.{eqb}
 use Rattle.semantics.specs.Proposition.{Proposition, never, always, signal, name, negated, bothOf, eitherOf}
 use Rattle.semantics.specs.Formula.{Formula, point, stretch, whole, unit, chop, conjunction, disjunction, star, slen, scount, sdur, drawn, at, gap, negation, forSome}
 use Rattle.semantics.specs.Placement.{Names, listed}
-use Rattle.semantics.specs.Clause.{Part, Kind, pref, init, anti, implies, follows, triggers, Clause}
+use Rattle.semantics.specs.Clause.{Part, ClauseType, pref, init, anti, implies, follows, triggers, Clause}
 
 -- every name in the proposition belongs to the set
 unfoldable pub propositionWithin : Names → Proposition → Bool
@@ -45,7 +45,7 @@ unfoldable pub fits : Part → Bool
 fits d = within (listed (d .names)) (d .formula)
 
 -- asked of the parts that the clause's type uses
-unfoldable pub partsFit : Kind → Part → Part → Part → Bool
+unfoldable pub partsFit : ClauseType → Part → Part → Part → Bool
 partsFit pref d₁ d₂ d₃ = fits d₁
 partsFit init d₁ d₂ d₃ = fits d₁ && fits d₂
 partsFit anti d₁ d₂ d₃ = fits d₁
@@ -54,7 +54,7 @@ partsFit follows d₁ d₂ d₃ = fits d₁ && (fits d₂ && fits d₃)
 partsFit triggers d₁ d₂ d₃ = fits d₁ && (fits d₂ && fits d₃)
 
 unfoldable pub clauseFits : Clause → Bool
-clauseFits c = partsFit (c .kind) (c .first) (c .second) (c .third)
+clauseFits c = partsFit (c .type) (c .first) (c .second) (c .third)
 
 unfoldable pub allFit : List Clause → Bool
 allFit [] = true

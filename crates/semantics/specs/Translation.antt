@@ -7,7 +7,7 @@ use Rattle.semantics.specs.Proposition.{signal, name, negated}
 use Rattle.semantics.specs.Formula.{Formula, point, stretch, whole, unit, chop, conjunction, disjunction, star, slen, scount, sdur, drawn, at, gap, negation, forSome}
 use Rattle.semantics.specs.Formula.{Symbol, low, high, either, lowStretch, highStretch, eitherStretch, steady, below, atMost, equal, atLeast, above}
 use Rattle.semantics.specs.Placement.{Names, noNames, everyName, union}
-use Rattle.semantics.specs.Clause.{Kind, pref, init, anti, implies, follows, triggers, Role, assumption, commitment, Clause}
+use Rattle.semantics.specs.Clause.{ClauseType, pref, init, anti, implies, follows, triggers, Role, assumption, commitment, Clause}
 use Rattle.semantics.specs.Verdict.{hasRole}
 
 -- every interval, those of more than one cycle, none (document 004's true, ext and false)
@@ -83,7 +83,7 @@ unansweredOf Θ₁ f₂ Θ₂ f₃ Θ₃ =
 
 -- "the clause is broken", of the whole trace. In follows and triggers the names of D1 and D3 have one mark each from i to the end of the
 -- trace, and one on their own part's interval: two marks in one column cannot pass for one name.
-unfoldable pub brokenOf : Kind → Formula → Names → Formula → Names → Formula → Names → Formula
+unfoldable pub brokenOf : ClauseType → Formula → Names → Formula → Names → Formula → Names → Formula
 brokenOf pref f₁ Θ₁ f₂ Θ₂ f₃ Θ₃ = chop (negation (placed noNames Θ₁ f₁)) anywhere
 brokenOf init f₁ Θ₁ f₂ Θ₂ f₃ Θ₃ =
     chop (placed noNames Θ₂ (conjunction f₂ (negation (chop (placed Θ₂ Θ₁ f₁) anywhere)))) anywhere
@@ -100,7 +100,7 @@ brokenOf triggers f₁ Θ₁ f₂ Θ₂ f₃ Θ₃ =
 
 unfoldable pub brokenClause : Clause → Formula
 brokenClause c =
-    brokenOf (c .kind)
+    brokenOf (c .type)
     (undrawn (c .first .formula)) (c .first .names)
     (undrawn (c .second .formula)) (c .second .names)
     (undrawn (c .third .formula)) (c .third .names)

@@ -8,6 +8,7 @@ use native.Mathlib.Omega.{arith}
 use borrow.Author.Tests.{ltb-true, leb-true, eqb-true}
 use lib.Dec.{leb, ltb, eqb}
 use lib.ListN.{length, getD, length-take, length-drop}
+use Rattle.stored.specs.Layout.{clausesEnd, nodeSize, clauseSize}
 use Rattle.semantics.specs.Proposition.{bit}
 use Rattle.semantics.specs.Clause.{Part, Clause}
 use Rattle.semantics.specs.Reach.{within, fits, partsFit, clauseFits, allFit}
@@ -20,8 +21,8 @@ use Rattle.stored.specs.declared.TraceAnswer.the-variants.{Cycles}
 use Rattle.stored.specs.Bytes.{inOrder}
 use Rattle.stored.specs.Node.{requirementSorts, isFormulaNode, nodeRight}
 use Rattle.stored.specs.Tree.{pick, formulaAt}
-use Rattle.stored.specs.Clause.{partsUsed, partRight, clauseRight, partNamed, clauseNamed, clauseRightAt, clauseNamedAt, kindOf, partOf, clauseOf}
-use Rattle.stored.specs.Sheet.{headerOf, clausesStart, sheetEnd, nodePart, clausePart, nodesOf, storedOf, counted, sized, nodesRight, operandsFound, clausesRight, clausesNamed, sheetRules, sheetRefusal, sheetAnswer, clauseIn, clausesOf}
+use Rattle.stored.specs.Clause.{partsUsed, partRight, clauseRight, partNamed, clauseNamed, clauseRightAt, clauseNamedAt, typeOf, partOf, clauseOf}
+use Rattle.stored.specs.Sheet.{headerOf, nodePart, clausePart, nodesOf, storedOf, counted, sized, nodesRight, operandsFound, clausesRight, clausesNamed, sheetRules, sheetRefusal, sheetAnswer, clauseIn, clausesOf}
 use Rattle.stored.specs.Trace.{cycleCount, cycleAt, cycleRight, cyclesRight, traceRules, traceRefusal, traceAnswer, cyclesOf}
 use Rattle.semantics.proofs.Tests.{and-left, and-right, and-intro}
 use Rattle.stored.proofs.Rules.{every-at, lowest-kept, Lowest, lowest-law, length-inOrder, getD-inOrder}
@@ -65,13 +66,13 @@ counts h e =
 -- a sheet to which none of the numbers 1 to 9 applies
 pub record Opened (s : List ℕ) : Type 0 where
   pub in-range : Counts (headerOf s)
-  pub long : length s ≡ 9 + 6 * headerOf s .nodes + 11 * headerOf s .clauses
+  pub long : length s ≡ clausesEnd (headerOf s .nodes) (headerOf s .clauses)
   pub nodes-kept : NodesKept (headerOf s .signals) (headerOf s .names) (headerOf s .nodes) (nodesOf s)
   pub clause-right : (k : ℕ) → k < headerOf s .clauses → clauseRight (nodesOf s) (headerOf s .nodes) (storedOf s k) ≡ true
   pub clause-named : (k : ℕ) → k < headerOf s .clauses → clauseNamed (nodesOf s) (headerOf s .names) (storedOf s k) ≡ true
 
 pub opened : (s : List ℕ) → sheetRefusal s ≡ 0 → Opened s
-unfolding sheetRefusal sheetRules sized sheetEnd nodesRight operandsFound clausesRight clausesNamed nodeRight clauseRightAt clauseNamedAt
+unfolding sheetRefusal sheetRules sized nodesRight operandsFound clausesRight clausesNamed nodeRight clauseRightAt clauseNamedAt
 opened s e =
     let r₁ = lowest-kept 1 _ _ (omega arith) e in
     let r₂ = lowest-kept 2 _ _ (omega arith) (r₁ .1) in
@@ -114,7 +115,7 @@ open-answer s h e = opened s (answer-accepted s h e .0)
 pub record Sizes (s : List ℕ) (h : Header) : Type 0 where
   pub nodes-most : h .nodes ≤ 64
   pub clauses-most : h .clauses ≤ 8
-  pub ends : length s ≡ 9 + 6 * h .nodes + 11 * h .clauses
+  pub ends : length s ≡ clausesEnd (h .nodes) (h .clauses)
 
 pub sizes : (s : List ℕ) (h : Header) → sheetAnswer s ≡ Accepted h → Sizes s h
 sizes s h e =
@@ -123,13 +124,13 @@ sizes s h e =
     (record { nodes-most = o .in-range .few-nodes; clauses-most = o .in-range .few-clauses; ends = o .long })
 
 -- the parts handed to the functions over them
-pub length-nodes : (s : List ℕ) → Opened s → length (nodePart s) ≡ 6 * headerOf s .nodes
-unfolding nodePart clausesStart
+pub length-nodes : (s : List ℕ) → Opened s → length (nodePart s) ≡ nodeSize * headerOf s .nodes
+unfolding nodePart
 length-nodes s o =
     simp (length-take, length-drop) (omega (arith, o .long))
 
-pub length-clauses : (s : List ℕ) → Opened s → length (clausePart s) ≡ 11 * headerOf s .clauses
-unfolding clausePart clausesStart sheetEnd
+pub length-clauses : (s : List ℕ) → Opened s → length (clausePart s) ≡ clauseSize * headerOf s .clauses
+unfolding clausePart
 length-clauses s o =
     simp (length-take, length-drop) (omega (arith, o .long))
 
@@ -156,19 +157,19 @@ part-kept x n m false root mask e f =
 
 -- a clause that rules 8 and 9 take
 pub record ClauseKept (x : ℕ → Node) (n m : ℕ) (d : StoredClause) : Type 0 where
-  pub kind-least : 1 ≤ d .kind
-  pub kind-most : d .kind ≤ 6
+  pub type-least : 1 ≤ d .«clause_type»
+  pub type-most : d .«clause_type» ≤ 6
   pub role-most : d .role ≤ 1
-  pub part1 : PartKept x n m (ltb 0 (partsUsed (d .kind))) (d .root1) (d .mask1)
-  pub part2 : PartKept x n m (ltb 1 (partsUsed (d .kind))) (d .root2) (d .mask2)
-  pub part3 : PartKept x n m (ltb 2 (partsUsed (d .kind))) (d .root3) (d .mask3)
+  pub part1 : PartKept x n m (ltb 0 (partsUsed (d .«clause_type»))) (d .root1) (d .mask1)
+  pub part2 : PartKept x n m (ltb 1 (partsUsed (d .«clause_type»))) (d .root2) (d .mask2)
+  pub part3 : PartKept x n m (ltb 2 (partsUsed (d .«clause_type»))) (d .root3) (d .mask3)
 
 pub clause-kept : (x : ℕ → Node) (n m : ℕ) (d : StoredClause) → clauseRight x n d ≡ true → clauseNamed x m d ≡ true → ClauseKept x n m d
 unfolding clauseRight clauseNamed
 clause-kept x n m d e f =
-    let u = partsUsed (d .kind) in
-    let range = and-left (leb 1 (d .kind) && leb (d .kind) 6) _ e in
-    let roled = and-right (leb 1 (d .kind) && leb (d .kind) 6) _ e in
+    let u = partsUsed (d .«clause_type») in
+    let range = and-left (leb 1 (d .«clause_type») && leb (d .«clause_type») 6) _ e in
+    let roled = and-right (leb 1 (d .«clause_type») && leb (d .«clause_type») 6) _ e in
     let parts = and-right (leb (d .role) 1) _ roled in
     let first = partRight x n (ltb 0 u) (d .root1) (d .mask1) in
     let second = partRight x n (ltb 1 u) (d .root2) (d .mask2) in
@@ -177,8 +178,8 @@ clause-kept x n m d e f =
     let second′ = partNamed x m (ltb 1 u) (d .root2) (d .mask2) in
     let rest′ = and-right first′ _ f in
     record {
-      kind-least = leb-true 1 (d .kind) (and-left (leb 1 (d .kind)) _ range);
-      kind-most = leb-true (d .kind) 6 (and-right (leb 1 (d .kind)) _ range);
+      type-least = leb-true 1 (d .«clause_type») (and-left (leb 1 (d .«clause_type»)) _ range);
+      type-most = leb-true (d .«clause_type») 6 (and-right (leb 1 (d .«clause_type»)) _ range);
       role-most = leb-true (d .role) 1 (and-left (leb (d .role) 1) _ roled);
       part1 = part-kept x n m (ltb 0 u) (d .root1) (d .mask1) (and-left first _ parts) (and-left first′ _ f);
       part2 = part-kept x n m (ltb 1 u) (d .root2) (d .mask2) (and-left second _ rest) (and-left second′ _ rest′);
@@ -190,15 +191,15 @@ clauses-kept s o k h =
     clause-kept (nodesOf s) (headerOf s .nodes) (headerOf s .names) (storedOf s k) (o .clause-right k h) (o .clause-named k h)
 
 -- cases on a type's number
-pub kind-cases : (P : ℕ → Type 0) → P 1 → P 2 → P 3 → P 4 → P 5 → P 6 → (k : ℕ) → 1 ≤ k → k ≤ 6 → P k
-kind-cases P p1 p2 p3 p4 p5 p6 zero l h = absurd (omega arith)
-kind-cases P p1 p2 p3 p4 p5 p6 (suc zero) l h = p1
-kind-cases P p1 p2 p3 p4 p5 p6 (suc (suc zero)) l h = p2
-kind-cases P p1 p2 p3 p4 p5 p6 (suc (suc (suc zero))) l h = p3
-kind-cases P p1 p2 p3 p4 p5 p6 (suc (suc (suc (suc zero)))) l h = p4
-kind-cases P p1 p2 p3 p4 p5 p6 (suc (suc (suc (suc (suc zero))))) l h = p5
-kind-cases P p1 p2 p3 p4 p5 p6 (suc (suc (suc (suc (suc (suc zero)))))) l h = p6
-kind-cases P p1 p2 p3 p4 p5 p6 (suc (suc (suc (suc (suc (suc (suc k))))))) l h = absurd (omega arith)
+pub type-cases : (P : ℕ → Type 0) → P 1 → P 2 → P 3 → P 4 → P 5 → P 6 → (k : ℕ) → 1 ≤ k → k ≤ 6 → P k
+type-cases P p1 p2 p3 p4 p5 p6 zero l h = absurd (omega arith)
+type-cases P p1 p2 p3 p4 p5 p6 (suc zero) l h = p1
+type-cases P p1 p2 p3 p4 p5 p6 (suc (suc zero)) l h = p2
+type-cases P p1 p2 p3 p4 p5 p6 (suc (suc (suc zero))) l h = p3
+type-cases P p1 p2 p3 p4 p5 p6 (suc (suc (suc (suc zero)))) l h = p4
+type-cases P p1 p2 p3 p4 p5 p6 (suc (suc (suc (suc (suc zero))))) l h = p5
+type-cases P p1 p2 p3 p4 p5 p6 (suc (suc (suc (suc (suc (suc zero)))))) l h = p6
+type-cases P p1 p2 p3 p4 p5 p6 (suc (suc (suc (suc (suc (suc (suc k))))))) l h = absurd (omega arith)
 
 -- masks of an accepted sheet are below 8
 pub mask-small : (m mask : ℕ) → m ≤ 3 → mask < 2 ^ m → mask < 8
@@ -216,12 +217,12 @@ PartsFit m d₁ d₂ d₃ k =
     (ltb 0 (partsUsed k) ≡ true → fits d₁ ≡ true)
     → (ltb 1 (partsUsed k) ≡ true → fits d₂ ≡ true)
     → (ltb 2 (partsUsed k) ≡ true → fits d₃ ≡ true)
-    → partsFit (kindOf k) d₁ d₂ d₃ ≡ true
+    → partsFit (typeOf k) d₁ d₂ d₃ ≡ true
 
 parts-fit : (m : ℕ) (d₁ d₂ d₃ : Part) (k : ℕ) → 1 ≤ k → k ≤ 6 → PartsFit m d₁ d₂ d₃ k
-unfolding PartsFit partsUsed kindOf partsFit
+unfolding PartsFit partsUsed typeOf partsFit
 parts-fit m d₁ d₂ d₃ =
-    kind-cases (PartsFit m d₁ d₂ d₃)
+    type-cases (PartsFit m d₁ d₂ d₃)
     (λ e f g. e refl)
     (λ e f g. and-intro (fits d₁) (fits d₂) (e refl) (f refl))
     (λ e f g. e refl)
@@ -232,9 +233,9 @@ parts-fit m d₁ d₂ d₃ =
 clause-fits : (x : ℕ → Node) (n m : ℕ) (d : StoredClause) → m ≤ 3 → ClauseKept x n m d → clauseFits (clauseOf x d) ≡ true
 unfolding clauseFits clauseOf PartsFit
 clause-fits x n m d h kept =
-    parts-fit m (partOf x (d .root1) (d .mask1)) (partOf x (d .root2) (d .mask2)) (partOf x (d .root3) (d .mask3)) (d .kind)
-    (kept .kind-least)
-    (kept .kind-most)
+    parts-fit m (partOf x (d .root1) (d .mask1)) (partOf x (d .root2) (d .mask2)) (partOf x (d .root3) (d .mask3)) (d .«clause_type»)
+    (kept .type-least)
+    (kept .type-most)
     (part-fits x n m _ (d .root1) (d .mask1) h (kept .part1))
     (part-fits x n m _ (d .root2) (d .mask2) h (kept .part2))
     (part-fits x n m _ (d .root3) (d .mask3) h (kept .part3))

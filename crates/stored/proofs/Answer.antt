@@ -107,8 +107,8 @@ part-covered s m n x kept few false root mask e = refl
 clause-covered : (s m n : ℕ) (x : ℕ → Node) → NodesKept s m n x → n ≤ 64 → (d : StoredClause) → clauseRight x n d ≡ true → clauseCovered (reachTable x n) m d ≡ clauseNamed x m d
 unfolding clauseRight clauseCovered clauseNamed
 clause-covered s m n x kept few d e =
-    let u = partsUsed (d .kind) in
-    let roled = and-right (leb 1 (d .kind) && leb (d .kind) 6) _ e in
+    let u = partsUsed (d .«clause_type») in
+    let roled = and-right (leb 1 (d .«clause_type») && leb (d .«clause_type») 6) _ e in
     let parts = and-right (leb (d .role) 1) _ roled in
     let first = partRight x n (ltb 0 u) (d .root1) (d .mask1) in
     let second = partRight x n (ltb 1 u) (d .root2) (d .mask2) in

@@ -10,11 +10,11 @@ use Rattle.stored.specs.Bytes.{word, framedFrom, everyBelow, inOrder, lo
 use Rattle.stored.specs.Node.{nodeAt, sortOf, qUse, aUse, bUse, fieldRight, fieldsRight, nodeRight, sortBelow, operandRight, operandsRight, isFormulaNode}
 use Rattle.stored.specs.Tree.{pick, earlier, deep, made, propositionOp, formulaOp, propositionOf, propositionStep, propositionAt, formulaOf, formulaStep, formulaAt}
 use Rattle.stored.specs.Clause.{storedAt, partsUsed, partRight, clauseRight, partNamed, clauseNamed, clauseRightAt, clauseNamedAt}
-use Rattle.stored.specs.Sheet.{headerOf, clausesStart, sheetEnd, nodePart, clausePart, nodesOf, storedOf, framed, versioned, ofKindOne, counted, sized, nodesRight, operandsFound, clausesRight, clausesNamed, sheetRules, sheetRefusal}
+use Rattle.stored.specs.Sheet.{headerOf, nodePart, clausePart, nodesOf, storedOf, framed, versioned, ofKindOne, counted, sized, nodesRight, operandsFound, clausesRight, clausesNamed, sheetRules, sheetRefusal}
 use Rattle.stored.specs.Trace.{cycleCount, cycleAt, traceFramed, traceVersioned, sameSignals, cycleRight, cyclesRight, traceRules, traceRefusal, cyclesOf}
 
 unfoldable pub computing : ℕ
-unfolding word framedFrom everyBelow inOrder lowest nodeAt sortOf qUse aUse bUse fieldRight fieldsRight nodeRight sortBelow operandRight operandsRight isFormulaNode pick earlier deep made propositionOp formulaOp propositionOf propositionStep propositionAt formulaOf formulaStep formulaAt storedAt partsUsed partRight clauseRight partNamed clauseNamed clauseRightAt clauseNamedAt headerOf clausesStart sheetEnd nodePart clausePart nodesOf storedOf framed versioned ofKindOne counted sized nodesRight operandsFound clausesRight clausesNamed sheetRules sheetRefusal cycleCount cycleAt traceFramed traceVersioned sameSignals cycleRight cyclesRight traceRules traceRefusal cyclesOf within propositionWithin bit
+unfolding word framedFrom everyBelow inOrder lowest nodeAt sortOf qUse aUse bUse fieldRight fieldsRight nodeRight sortBelow operandRight operandsRight isFormulaNode pick earlier deep made propositionOp formulaOp propositionOf propositionStep propositionAt formulaOf formulaStep formulaAt storedAt partsUsed partRight clauseRight partNamed clauseNamed clauseRightAt clauseNamedAt headerOf nodePart clausePart nodesOf storedOf framed versioned ofKindOne counted sized nodesRight operandsFound clausesRight clausesNamed sheetRules sheetRefusal cycleCount cycleAt traceFramed traceVersioned sameSignals cycleRight cyclesRight traceRules traceRefusal cyclesOf within propositionWithin bit
 computing = 0
 
 abbrev sheet : List ℕ

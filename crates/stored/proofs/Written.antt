@@ -12,8 +12,9 @@ use lib.Seq.{sets, length-sets, getD-set-same, getD-set-other, getD-drop, getD-t
 use Rattle.stored.specs.declared.Node.{Node}
 use Rattle.stored.specs.Bytes.{word}
 use Rattle.stored.specs.Node.{nodeAt}
-use Rattle.stored.specs.Sheet.{headerOf, clausesStart, nodePart, nodesOf}
-use Rattle.stored.specs.Written.{emittedLength, nodeBytes, putNode, emittedHeader, putHeader, nodeIn}
+use Rattle.stored.specs.Sheet.{headerOf, nodePart, nodesOf}
+use Rattle.stored.specs.Layout.{nodesStart, nodesEnd, following}
+use Rattle.stored.specs.Written.{nodeBytes, putNode, emittedHeader, putHeader, nodeIn}
 use Rattle.semantics.proofs.Tests.{test}
 
 -- bytes put at p: the others stay
@@ -74,24 +75,24 @@ header-same l l′ h =
 module _ (s : List ℕ) (i : ℕ) (x : Node) where
   pub put-length : length (putNode s i x) ≡ length s
   unfolding putNode
-  put-length = length-sets s (9 + 6 * i) (nodeBytes x)
+  put-length = length-sets s (nodesEnd i) (nodeBytes x)
 
-  pub put-back : (n : ℕ) → emittedLength (i + 1) ≤ n → drop n (putNode s i x) ≡ drop n s
+  pub put-back : (n : ℕ) → nodesEnd (i + 1) ≤ n → drop n (putNode s i x) ≡ drop n s
   unfolding putNode nodeBytes
-  put-back n h = drop-after s (9 + 6 * i) (nodeBytes x) n (omega arith)
+  put-back n h = drop-after s (nodesEnd i) (nodeBytes x) n (omega arith)
 
-  byte-put : emittedLength (i + 1) ≤ length s → (k : ℕ) → k < 6 → getD (drop 9 (putNode s i x)) (6 * i + k) 0 ≡ getD (nodeBytes x) k 0
+  byte-put : nodesEnd (i + 1) ≤ length s → (k : ℕ) → k < 6 → getD (drop nodesStart (putNode s i x)) (6 * i + k) 0 ≡ getD (nodeBytes x) k 0
   unfolding putNode nodeBytes
   byte-put fits k h =
-      let place : 9 + (6 * i + k) ≡ 9 + 6 * i + k = omega arith in
-      getD-drop 9 (putNode s i x) (6 * i + k) 0
-      ∙ rw place (getD-put s (9 + 6 * i) (nodeBytes x) k (omega arith) h)
+      let place : 9 + (6 * i + k) ≡ nodesEnd i + k = omega arith in
+      getD-drop nodesStart (putNode s i x) (6 * i + k) 0
+      ∙ rw place (getD-put s (nodesEnd i) (nodeBytes x) k (omega arith) h)
 
   -- the node is read back
-  pub put-read : emittedLength (i + 1) ≤ length s → nodeIn (putNode s i x) i ≡ x
+  pub put-read : nodesEnd (i + 1) ≤ length s → nodeIn (putNode s i x) i ≡ x
   unfolding nodeIn nodeBytes
   put-read fits =
-      let l = drop 9 (putNode s i x) in
+      let l = drop nodesStart (putNode s i x) in
       let first : 6 * i ≡ 6 * i + 0 = omega arith in
       let third : 6 * i + 2 + 1 ≡ 6 * i + 3 = omega arith in
       let fifth : 6 * i + 4 + 1 ≡ 6 * i + 5 = omega arith in
@@ -101,20 +102,20 @@ module _ (s : List ℕ) (i : ℕ) (x : Node) where
       (word-of l (6 * i + 2) (x .a) (byte-put fits 2 (omega arith)) (ap (λ (k : ℕ). getD l k 0) third ∙ byte-put fits 3 (omega arith)))
       (word-of l (6 * i + 4) (x .b) (byte-put fits 4 (omega arith)) (ap (λ (k : ℕ). getD l k 0) fifth ∙ byte-put fits 5 (omega arith)))
 
-  byte-other : (j : ℕ) → (j ≡ i → ⊥) → (r : ℕ) → r < 6 → getD (drop 9 (putNode s i x)) (6 * j + r) 0 ≡ getD (drop 9 s) (6 * j + r) 0
+  byte-other : (j : ℕ) → (j ≡ i → ⊥) → (r : ℕ) → r < 6 → getD (drop nodesStart (putNode s i x)) (6 * j + r) 0 ≡ getD (drop nodesStart s) (6 * j + r) 0
   unfolding putNode nodeBytes
   byte-other j other r h =
-      getD-drop 9 (putNode s i x) (6 * j + r) 0
+      getD-drop nodesStart (putNode s i x) (6 * j + r) 0
       ∙ elim (test (ltb j i)) [
-        | inl e ↦ getD-before s (9 + 6 * i) (nodeBytes x) (9 + (6 * j + r)) (omega (arith, ltb-true j i e))
-        | inr e ↦ let more = ltb-false j i e in getD-after s (9 + 6 * i) (nodeBytes x) (9 + (6 * j + r)) (omega arith)
+        | inl e ↦ getD-before s (nodesEnd i) (nodeBytes x) (9 + (6 * j + r)) (omega (arith, ltb-true j i e))
+        | inr e ↦ let more = ltb-false j i e in getD-after s (nodesEnd i) (nodeBytes x) (9 + (6 * j + r)) (omega arith)
       ]
-      ∙ sym (getD-drop 9 s (6 * j + r) 0)
+      ∙ sym (getD-drop nodesStart s (6 * j + r) 0)
 
   -- the other nodes and the header stay
   pub put-other : (j : ℕ) → (j ≡ i → ⊥) → nodeIn (putNode s i x) j ≡ nodeIn s j
   unfolding nodeIn
-  put-other j other = node-same (drop 9 (putNode s i x)) (drop 9 s) j (byte-other j other)
+  put-other j other = node-same (drop nodesStart (putNode s i x)) (drop nodesStart s) j (byte-other j other)
 
 -- a kind 2 header
 module _ (out : List ℕ) (s m n : ℕ) where
@@ -147,17 +148,17 @@ module _ (out : List ℕ) (s m n : ℕ) where
         header-byte fits 8 (omega arith),
       )
 
-  pub header-rest : 9 ≤ length out → word (putHeader out s m n) 0 ≡ 7 + 6 * n
+  pub header-rest : 9 ≤ length out → word (putHeader out s m n) 0 ≡ following (nodesEnd n)
   unfolding emittedHeader
   header-rest fits =
-      word-of (putHeader out s m n) 0 (7 + 6 * n) (header-byte fits 0 (omega arith)) (header-byte fits 1 (omega arith))
+      word-of (putHeader out s m n) 0 (following (nodesEnd n)) (header-byte fits 0 (omega arith)) (header-byte fits 1 (omega arith))
 
 -- the nodes that the header counts
 pub nodes-in : (s : List ℕ) (i : ℕ) → i < headerOf s .nodes → nodesOf s i ≡ nodeIn s i
-unfolding nodesOf nodePart clausesStart nodeIn
+unfolding nodesOf nodePart nodeIn
 nodes-in s i h =
-    node-same (take (9 + 6 * headerOf s .nodes - 9) (drop 9 s)) (drop 9 s) i
-    (λ r l. getD-take (9 + 6 * headerOf s .nodes - 9) (drop 9 s) (6 * i + r) 0 (omega arith))
+    node-same (take (nodesEnd (headerOf s .nodes) - nodesStart) (drop nodesStart s)) (drop nodesStart s) i
+    (λ r l. getD-take (nodesEnd (headerOf s .nodes) - nodesStart) (drop nodesStart s) (6 * i + r) 0 (omega arith))
 
 -- a front of the bytes has the same header and nodes
 pub taken-byte : (n : ℕ) (s : List ℕ) (k : ℕ) → k < n → getD (take n s) k 0 ≡ getD s k 0
@@ -166,8 +167,8 @@ taken-byte n s k h = getD-take n s k 0 h
 pub taken-header : (n : ℕ) (s : List ℕ) → 9 ≤ n → headerOf (take n s) ≡ headerOf s
 taken-header n s h = header-same (take n s) s (λ k l. getD-take n s k 0 (omega arith))
 
-pub taken-node : (n : ℕ) (s : List ℕ) (i : ℕ) → emittedLength (i + 1) ≤ n → nodeIn (take n s) i ≡ nodeIn s i
+pub taken-node : (n : ℕ) (s : List ℕ) (i : ℕ) → nodesEnd (i + 1) ≤ n → nodeIn (take n s) i ≡ nodeIn s i
 unfolding nodeIn
 taken-node n s i h =
-    node-same (drop 9 (take n s)) (drop 9 s) i
-    (λ r l. getD-drop 9 (take n s) (6 * i + r) 0 ∙ getD-take n s (9 + (6 * i + r)) 0 (omega arith) ∙ sym (getD-drop 9 s (6 * i + r) 0))
+    node-same (drop nodesStart (take n s)) (drop nodesStart s) i
+    (λ r l. getD-drop nodesStart (take n s) (6 * i + r) 0 ∙ getD-take n s (9 + (6 * i + r)) 0 (omega arith) ∙ sym (getD-drop nodesStart s (6 * i + r) 0))

@@ -4,6 +4,7 @@ use mathlib.Core.Bool.{Bool, true, cond, _&&_}
 use mathlib.Core.List.{List, [], _∷_}
 use lib.Dec.{leb, eqb}
 use lib.ListN.{length, getD, take, drop}
+use Rattle.stored.specs.Layout.{following}
 
 -- the big-endian field of two bytes at k
 unfoldable pub word : List ℕ → ℕ → ℕ
@@ -11,7 +12,7 @@ word s k = getD s k 0 * 256 + getD s (k + 1) 0
 
 -- it has `least` bytes or more, and bytes 0–1 are its length less 2
 unfoldable pub framedFrom : ℕ → List ℕ → Bool
-framedFrom least s = leb least (length s) && eqb (word s 0) (length s - 2)
+framedFrom least s = leb least (length s) && eqb (word s 0) (following (length s))
 
 -- the bytes from a up to but without e
 abbrev pub part : ℕ → ℕ → List ℕ → List ℕ

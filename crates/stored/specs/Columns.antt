@@ -6,15 +6,16 @@ use lib.ListN.{length, getD}
 use Rattle.semantics.specs.Proposition.{Trace, Marks, bit}
 use Rattle.rows.specs.Row.{word}
 use Rattle.stored.specs.Bytes.{inOrder}
+use Rattle.stored.specs.Layout.{mostSignals, mostNames}
 use Rattle.stored.specs.Trace.{cycleAt}
 use Rattle.stored.specs.Tree.{earlier}
 
 -- how many there are, and the first of a name
 abbrev pub columnCount : ℕ
-columnCount = 19
+columnCount = mostSignals + mostNames
 
 abbrev pub firstName : ℕ
-firstName = 16
+firstName = mostSignals
 
 unfoldable pub columnAt : List ℕ → ℕ → ℕ
 columnAt columns k = getD columns k 0

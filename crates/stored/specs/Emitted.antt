@@ -10,6 +10,7 @@ use Rattle.semantics.specs.Placement.{noNames}
 use Rattle.semantics.specs.Reach.{within}
 use Rattle.stored.specs.declared.Header.{Header}
 use Rattle.stored.specs.Bytes.{everyBelow}
+use Rattle.stored.specs.Layout.{mostSignals, mostNames}
 use Rattle.stored.specs.Node.{emittedSorts, nodeRight, operandsRight, isFormulaNode}
 use Rattle.stored.specs.Tree.{formulaAt}
 use Rattle.stored.specs.Sheet.{headerOf, nodesOf, framed, versioned, sized}
@@ -20,7 +21,7 @@ ofKindTwo s = eqb (getD s 3 0) 2
 -- kind 2 has one node or more and no clause
 unfoldable pub emittedCounted : Header → Bool
 emittedCounted h =
-    (leb 1 (h .signals) && leb (h .signals) 16) && (leb (h .names) 3 && (leb 1 (h .nodes) && eqb (h .clauses) 0))
+    (leb 1 (h .signals) && leb (h .signals) mostSignals) && (leb (h .names) mostNames && (leb 1 (h .nodes) && eqb (h .clauses) 0))
 
 -- its root is its last node
 unfoldable pub rootOf : List ℕ → ℕ

@@ -1,4 +1,5 @@
 -- What bytes are a sheet or a trace, and what they say, in the order of document 01.
+pub mod Layout
 pub mod Bytes
 pub mod Node
 pub mod Tree

@@ -6,11 +6,17 @@ use lib.Dec.{leb, ltb, eqb}
 use lib.ListN.{getD}
 use Rattle.stored.specs.declared.Node.{Node}
 use Rattle.stored.specs.Bytes.{word}
+use Rattle.stored.specs.Layout.{nodeSize}
 
--- six bytes a node
+-- node i of a node area
 unfoldable pub nodeAt : List ℕ → ℕ → Node
 nodeAt l i =
-    record { op = getD l (6 * i) 0; q = getD l (6 * i + 1) 0; a = word l (6 * i + 2); b = word l (6 * i + 4) }
+    record {
+      op = getD l (nodeSize * i) 0;
+      q = getD l (nodeSize * i + 1) 0;
+      a = word l (nodeSize * i + 2);
+      b = word l (nodeSize * i + 4);
+    }
 
 -- The sort of a node goes by its op, and by the kind of the sheet: 0 is no op of that kind.
 abbrev pub proposition : ℕ

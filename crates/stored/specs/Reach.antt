@@ -9,6 +9,7 @@ use Rattle.semantics.specs.Proposition.{bit}
 use Rattle.semantics.specs.Placement.{Names}
 use Rattle.stored.specs.declared.Node.{Node}
 use Rattle.stored.specs.Bytes.{inOrder}
+use Rattle.stored.specs.Layout.{mostNodes}
 use Rattle.stored.specs.Node.{qUse, aUse, bUse}
 use Rattle.stored.specs.Tree.{earlier, made}
 
@@ -41,9 +42,9 @@ reachAt x i = made 0 (reachStep x) i
 unfoldable pub covers : ℕ → Names → Bool
 covers r names = (not (bit r 0) || names 0) && ((not (bit r 1) || names 1) && (not (bit r 2) || names 2))
 
--- the masks of the first n nodes, in a table of 64
+-- the masks of the first n nodes, in a table for the most that there can be
 unfoldable pub reachTable : (ℕ → Node) → ℕ → List ℕ
-reachTable x n = inOrder 64 (earlier n 0 (reachAt x))
+reachTable x n = inOrder mostNodes (earlier n 0 (reachAt x))
 
 unfoldable pub entryOf : List ℕ → ℕ → ℕ
 entryOf table i = getD table i 0

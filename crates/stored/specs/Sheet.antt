@@ -1,5 +1,5 @@
--- Document 01, "The stored sheet" and refusals 1 to 9. Only this file knows where the node and clause areas start.
-use Prim.Native.Nat.{ℕ, _+_, _*_}
+-- Document 01, "The stored sheet" and refusals 1 to 9.
+use Prim.Native.Nat.{ℕ}
 use mathlib.Core.Bool.{Bool, _&&_}
 use mathlib.Core.List.{List, [], _∷_}
 use lib.Dec.{leb, eqb}
@@ -13,6 +13,7 @@ use Rattle.stored.specs.declared.Header.{Header}
 use Rattle.stored.specs.declared.SheetAnswer.{SheetAnswer}
 use Rattle.stored.specs.declared.SheetAnswer.the-variants.{Accepted, Refused}
 use Rattle.stored.specs.Bytes.{word, framedFrom, part, everyBelow, inOrder, lowest}
+use Rattle.stored.specs.Layout.{nodesStart, nodesEnd, clausesEnd, mostSignals, mostNames, mostNodes, mostClauses}
 use Rattle.stored.specs.Node.{nodeAt, requirementSorts, nodeRight, operandsRight}
 use Rattle.stored.specs.Tree.{pick}
 use Rattle.stored.specs.Clause.{storedAt, clauseRightAt, clauseNamedAt, clauseOf}
@@ -20,21 +21,11 @@ use Rattle.stored.specs.Clause.{storedAt, clauseRightAt, clauseNamedAt, 
 unfoldable pub headerOf : List ℕ → Header
 headerOf s = record { signals = getD s 4 0; names = getD s 5 0; nodes = word s 6; clauses = getD s 8 0 }
 
--- where the node area starts, where the clause area does, and where a sheet with these counts ends
-abbrev pub nodesStart : ℕ
-nodesStart = 9
-
-unfoldable pub clausesStart : Header → ℕ
-clausesStart h = 9 + 6 * h .nodes
-
-unfoldable pub sheetEnd : Header → ℕ
-sheetEnd h = 9 + 6 * h .nodes + 11 * h .clauses
-
 unfoldable pub nodePart : List ℕ → List ℕ
-nodePart s = part nodesStart (clausesStart (headerOf s)) s
+nodePart s = part nodesStart (nodesEnd (headerOf s .nodes)) s
 
 unfoldable pub clausePart : List ℕ → List ℕ
-clausePart s = part (clausesStart (headerOf s)) (sheetEnd (headerOf s)) s
+clausePart s = part (nodesEnd (headerOf s .nodes)) (clausesEnd (headerOf s .nodes) (headerOf s .clauses)) s
 
 unfoldable pub nodesOf : List ℕ → ℕ → Node
 nodesOf s = nodeAt (nodePart s)
@@ -44,7 +35,7 @@ storedOf s = storedAt (clausePart s)
 
 -- 1. It has 9 bytes or more, and bytes 0–1 are its length less 2.
 unfoldable pub framed : List ℕ → Bool
-framed s = framedFrom 9 s
+framed s = framedFrom nodesStart s
 
 -- 2. Its version is 1.
 unfoldable pub versioned : List ℕ → Bool
@@ -57,13 +48,13 @@ ofKindOne s = eqb (getD s 3 0) 1
 -- 4. Its counts are in range for kind 1.
 unfoldable pub counted : Header → Bool
 counted h =
-    (leb 1 (h .signals) && leb (h .signals) 16)
-    && (leb (h .names) 3
-    && ((leb 1 (h .nodes) && leb (h .nodes) 64) && (leb 1 (h .clauses) && leb (h .clauses) 8)))
+    (leb 1 (h .signals) && leb (h .signals) mostSignals)
+    && (leb (h .names) mostNames
+    && ((leb 1 (h .nodes) && leb (h .nodes) mostNodes) && (leb 1 (h .clauses) && leb (h .clauses) mostClauses)))
 
 -- 5. Its length is 9 + 6n + 11c.
 unfoldable pub sized : List ℕ → Bool
-sized s = eqb (length s) (sheetEnd (headerOf s))
+sized s = eqb (length s) (clausesEnd (headerOf s .nodes) (headerOf s .clauses))
 
 -- 6. Each node has an op of kind 1, unused fields zero, and signals, names, comparisons, symbols and gaps in range.
 unfoldable pub nodesRight : List ℕ → Bool

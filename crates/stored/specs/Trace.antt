@@ -8,18 +8,19 @@ use Rattle.semantics.specs.Proposition.{Trace}
 use Rattle.stored.specs.declared.TraceAnswer.{TraceAnswer}
 use Rattle.stored.specs.declared.TraceAnswer.the-variants.{Cycles, Refused}
 use Rattle.stored.specs.Bytes.{word, framedFrom, everyBelow, inOrder, lowest}
+use Rattle.stored.specs.Layout.{cyclesStart, cycleSize, mostCycles}
 use Rattle.stored.specs.Tree.{pick}
 
 -- a two-byte word a cycle from byte 4 on
 unfoldable pub cycleCount : List ℕ → ℕ
-cycleCount t = (length t - 4) / 2
+cycleCount t = (length t - cyclesStart) / cycleSize
 
 unfoldable pub cycleAt : List ℕ → ℕ → ℕ
-cycleAt t i = word t (2 * i + 4)
+cycleAt t i = word t (cycleSize * i + cyclesStart)
 
 -- 10. It has 4 bytes or more, and bytes 0–1 are its length less 2.
 unfoldable pub traceFramed : List ℕ → Bool
-traceFramed t = framedFrom 4 t
+traceFramed t = framedFrom cyclesStart t
 
 -- 11. Its version is 1.
 unfoldable pub traceVersioned : List ℕ → Bool
@@ -36,8 +37,8 @@ cycleRight s t i = ltb (cycleAt t i) (2 ^ s)
 -- 13. Its cycles are 1 to 64 whole words, and no bit from s up is set.
 unfoldable pub cyclesRight : ℕ → List ℕ → Bool
 cyclesRight s t =
-    eqb (length t) (4 + 2 * cycleCount t)
-    && ((leb 1 (cycleCount t) && leb (cycleCount t) 64) && everyBelow (cycleCount t) (cycleRight s t))
+    eqb (length t) (cyclesStart + cycleSize * cycleCount t)
+    && ((leb 1 (cycleCount t) && leb (cycleCount t) mostCycles) && everyBelow (cycleCount t) (cycleRight s t))
 
 unfoldable pub traceRules : ℕ → List ℕ → List Bool
 traceRules s t = traceFramed t ∷ traceVersioned t ∷ sameSignals s t ∷ cyclesRight s t ∷ []

@@ -1,26 +1,22 @@
 -- The bytes of one node and of a kind 2 header, put into lent bytes. Bytes before and after stay.
-use Prim.Native.Nat.{ℕ, _+_, _*_, _/_, _%_, _<_}
+use Prim.Native.Nat.{ℕ, _/_, _%_, _<_}
 use mathlib.Core.List.{List, [], _∷_}
 use lib.ListN.{drop}
 use lib.Seq.{sets}
 use Rattle.stored.specs.declared.Node.{Node}
 use Rattle.stored.specs.Node.{nodeAt}
-use Rattle.stored.specs.Sheet.{nodesStart}
-
--- how long a kind 2 sheet of n nodes is
-abbrev pub emittedLength : ℕ → ℕ
-emittedLength n = nodesStart + 6 * n
+use Rattle.stored.specs.Layout.{nodesStart, nodesEnd, following}
 
 unfoldable pub nodeBytes : Node → List ℕ
 nodeBytes x = x .op ∷ x .q ∷ x .a / 256 ∷ x .a % 256 ∷ x .b / 256 ∷ x .b % 256 ∷ []
 
 unfoldable pub putNode : List ℕ → ℕ → Node → List ℕ
-putNode s i x = sets s (emittedLength i) (nodeBytes x)
+putNode s i x = sets s (nodesEnd i) (nodeBytes x)
 
--- s signals, m names, n nodes and no clause; bytes 0–1 are the length 9 + 6n less 2
+-- s signals, m names, n nodes and no clause
 unfoldable pub emittedHeader : ℕ → ℕ → ℕ → List ℕ
 emittedHeader s m n =
-    (7 + 6 * n) / 256 ∷ (7 + 6 * n) % 256 ∷ 1 ∷ 2 ∷ s ∷ m ∷ n / 256 ∷ n % 256 ∷ 0 ∷ []
+    following (nodesEnd n) / 256 ∷ following (nodesEnd n) % 256 ∷ 1 ∷ 2 ∷ s ∷ m ∷ n / 256 ∷ n % 256 ∷ 0 ∷ []
 
 unfoldable pub putHeader : List ℕ → ℕ → ℕ → ℕ → List ℕ
 putHeader out s m n = sets out 0 (emittedHeader s m n)

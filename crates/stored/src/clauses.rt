@@ -2,26 +2,35 @@
 use crate::StoredClause;
 use crate::bytes;
 use crate::bytes::wide;
+use crate::layout;
 use crate::masks;
 use crate::nodes;
 ghost use mathlib.Core.Path.{_≡_};
 ghost use Prim.Native.Nat.{_+_, _*_, _≤_, _<_};
 ghost use lib.ListN.{length};
 ghost use Rattle.stored.specs.Bytes.{everyBelow};
+ghost use Rattle.stored.specs.Layout.{nodeSize, clauseSize, mostNodes};
 ghost use Rattle.stored.specs.Node.{nodeAt};
 ghost use Rattle.stored.specs.Reach.{reachTable};
 ghost use Rattle.stored.specs.Clause.{storedAt, partsUsed, partRight, clauseRight, clauseRightAt, partCovered, clauseCovered, clauseCoveredAt};
+
+// The roles by their numbers, and how many there are.
+pub const ASSUMPTION: usize = 0;
+
+pub const COMMITMENT: usize = 1;
+
+pub const ROLES: usize = COMMITMENT + 1;
 
 // How many parts each type uses; there is no type 0.
 const PARTS: [u8; 7] = [0, 1, 2, 1, 2, 3, 3];
 
 // Clause k of a clause part.
 pub fn stored_at(clauses: &[u8], k: usize) -> StoredClause
-    requires { ⌜ 11 * k + 11 ≤ length (now clauses) ⌝ }
+    requires { ⌜ clauseSize * k + clauseSize ≤ length (now clauses) ⌝ }
     ensures { λ r. ⌜ r ≡ storedAt (now (clauses .entry)) k ⌝ }
 {
-    let at = 11 * k;
-    let kind = bytes::byte(clauses, at);
+    let at = layout::CLAUSE_SIZE * k;
+    let clause_type = bytes::byte(clauses, at);
     let role = bytes::byte(clauses, at + 1);
     let root1 = bytes::word(clauses, at + 2);
     let root2 = bytes::word(clauses, at + 4);
@@ -30,7 +39,7 @@ pub fn stored_at(clauses: &[u8], k: usize) -> StoredClause
     let mask2 = bytes::byte(clauses, at + 9);
     let mask3 = bytes::byte(clauses, at + 10);
     StoredClause {
-        kind,
+        clause_type,
         role,
         root1,
         root2,
@@ -42,15 +51,19 @@ pub fn stored_at(clauses: &[u8], k: usize) -> StoredClause
 }
 
 // How many parts a type uses.
-pub fn parts_used(kind: usize) -> usize
-    ensures { λ r. ⌜ r ≡ partsUsed kind ⌝ }
+pub fn parts_used(clause_type: usize) -> usize
+    ensures { λ r. ⌜ r ≡ partsUsed «clause_type» ⌝ }
 {
-    if kind < 7 { wide(PARTS[kind]) } else { 0 }
+    if clause_type < 7 {
+        wide(PARTS[clause_type])
+    } else {
+        0
+    }
 }
 
 // A used root is a formula node; an unused root and mask are zero.
 fn part_ok(nodes: &[u8], n: usize, used: bool, root: usize, mask: usize) -> bool
-    requires { ⌜ 6 * n ≤ length (now nodes) ⌝ }
+    requires { ⌜ nodeSize * n ≤ length (now nodes) ⌝ }
     ensures { λ r. ⌜ r ≡ partRight (nodeAt (now (nodes .entry))) n used root mask ⌝ }
 {
     if used {
@@ -61,14 +74,14 @@ fn part_ok(nodes: &[u8], n: usize, used: bool, root: usize, mask: usize) -> bool
 }
 
 fn clause_ok(nodes: &[u8], n: usize, d: StoredClause) -> bool
-    requires { ⌜ 6 * n ≤ length (now nodes) ⌝ }
+    requires { ⌜ nodeSize * n ≤ length (now nodes) ⌝ }
     ensures { λ r. ⌜ r ≡ clauseRight (nodeAt (now (nodes .entry))) n d ⌝ }
 {
-    let kind = d.kind;
+    let clause_type = d.clause_type;
     let role = d.role;
-    let used = parts_used(kind);
-    let typed = (1 <= kind) & (kind <= 6);
-    let roled = role <= 1;
+    let used = parts_used(clause_type);
+    let typed = (1 <= clause_type) & (clause_type <= 6);
+    let roled = role <= COMMITMENT;
     let first = part_ok(nodes, n, 0 < used, d.root1, d.mask1);
     let second = part_ok(nodes, n, 1 < used, d.root2, d.mask2);
     let third = part_ok(nodes, n, 2 < used, d.root3, d.mask3);
@@ -77,7 +90,7 @@ fn clause_ok(nodes: &[u8], n: usize, d: StoredClause) -> bool
 
 // Rule 8: every clause's fields are right.
 pub fn clauses_ok(nodes: &[u8], n: usize, clauses: &[u8], c: usize) -> bool
-    requires { ⌜ (6 * n ≤ length (now nodes)) × (11 * c ≤ length (now clauses)) ⌝ }
+    requires { ⌜ (nodeSize * n ≤ length (now nodes)) × (clauseSize * c ≤ length (now clauses)) ⌝ }
     ensures { λ r. ⌜ r ≡ everyBelow c (clauseRightAt (nodeAt (now (nodes .entry))) n (storedAt (now (clauses .entry)))) ⌝ }
 {
     let mut ok = true;
@@ -105,7 +118,7 @@ fn clause_covered(table: &[usize], m: usize, d: StoredClause) -> bool
     requires { ⌜ m < 64 ⌝ }
     ensures { λ r. ⌜ r ≡ clauseCovered (now (table .entry)) m d ⌝ }
 {
-    let used = parts_used(d.kind);
+    let used = parts_used(d.clause_type);
     let first = part_covered(table, m, 0 < used, d.root1, d.mask1);
     let second = part_covered(table, m, 1 < used, d.root2, d.mask2);
     let third = part_covered(table, m, 2 < used, d.root3, d.mask3);
@@ -113,7 +126,7 @@ fn clause_covered(table: &[usize], m: usize, d: StoredClause) -> bool
 }
 
 fn all_covered(table: &[usize], m: usize, clauses: &[u8], c: usize) -> bool
-    requires { ⌜ (m < 64) × (11 * c ≤ length (now clauses)) ⌝ }
+    requires { ⌜ (m < 64) × (clauseSize * c ≤ length (now clauses)) ⌝ }
     ensures { λ r. ⌜ r ≡ everyBelow c (clauseCoveredAt (now (table .entry)) m (storedAt (now (clauses .entry)))) ⌝ }
 {
     let mut ok = true;
@@ -127,7 +140,7 @@ fn all_covered(table: &[usize], m: usize, clauses: &[u8], c: usize) -> bool
 
 // Rule 9: every mask has bits for names below m only, and covers what its part reaches.
 pub fn clauses_covered(nodes: &[u8], n: usize, m: usize, clauses: &[u8], c: usize) -> bool
-    requires { ⌜ (n ≤ 64) × (6 * n ≤ length (now nodes)) × (m < 64) × (11 * c ≤ length (now clauses)) ⌝ }
+    requires { ⌜ (n ≤ mostNodes) × (nodeSize * n ≤ length (now nodes)) × (m < 64) × (clauseSize * c ≤ length (now clauses)) ⌝ }
     ensures { λ r. ⌜ r ≡ everyBelow c (clauseCoveredAt (reachTable (nodeAt (now (nodes .entry))) n) m (storedAt (now (clauses .entry)))) ⌝ }
 {
     let table = masks::reach_table(nodes, n);

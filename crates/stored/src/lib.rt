@@ -1,6 +1,7 @@
 // Stored sheets and traces: which bytes are one, by which number the others are refused, and what an accepted sheet says.
 pub mod bytes;
 pub mod clauses;
+pub mod layout;
 pub mod masks;
 pub mod nodes;
 pub mod sheet;
@@ -17,7 +18,7 @@ pub struct Node {
 
 // A clause's eight fields.
 pub struct StoredClause {
-    pub kind: usize,
+    pub clause_type: usize,
     pub role: usize,
     pub root1: usize,
     pub root2: usize,

@@ -1,10 +1,14 @@
 // The names that nodes reach, as masks.
 use crate::Node;
 use crate::bytes::wide;
+use crate::layout;
 use crate::nodes;
+use rows::mask::has;
 ghost use mathlib.Core.Path.{_≡_};
-ghost use Prim.Native.Nat.{_*_, _≤_};
+ghost use Prim.Native.Nat.{_*_, _≤_, _<_};
 ghost use lib.ListN.{length};
+ghost use Rattle.semantics.specs.Proposition.{bit};
+ghost use Rattle.stored.specs.Layout.{nodeSize, mostNodes};
 ghost use Rattle.stored.specs.Node.{nodeAt};
 ghost use Rattle.stored.specs.Reach.{nameMask, fieldReach, nodeReach, entryOf, reachTable};
 
@@ -14,7 +18,19 @@ const NAMES: [u8; 3] = [1, 2, 4];
 pub fn name_mask(u: usize) -> usize
     ensures { λ r. ⌜ r ≡ nameMask u ⌝ }
 {
-    if u < 3 { wide(NAMES[u]) } else { 0 }
+    if u < layout::MOST_NAMES {
+        wide(NAMES[u])
+    } else {
+        0
+    }
+}
+
+// Whether a mask has name u.
+pub fn has_name(mask: usize, u: usize) -> bool
+    requires { ⌜ u < 64 ⌝ }
+    ensures { λ r. ⌜ r ≡ bit mask u ⌝ }
+{
+    has(mask as u64, u)
 }
 
 // Entry i of a table, 0 past its end.
@@ -51,11 +67,11 @@ fn node_reach(table: &[usize], x: Node) -> usize
 }
 
 // The reach masks of the first n nodes.
-pub fn reach_table(nodes: &[u8], n: usize) -> [usize; 64]
-    requires { ⌜ (n ≤ 64) × (6 * n ≤ length (now nodes)) ⌝ }
+pub fn reach_table(nodes: &[u8], n: usize) -> [usize; layout::MOST_NODES]
+    requires { ⌜ (n ≤ mostNodes) × (nodeSize * n ≤ length (now nodes)) ⌝ }
     ensures { λ r. ⌜ r ≡ reachTable (nodeAt (now (nodes .entry))) n ⌝ }
 {
-    let mut table = [0usize; 64];
+    let mut table = [0usize; layout::MOST_NODES];
     let mut i = 0;
     while i < n {
         let mask = node_reach(&table, nodes::node_at(nodes, i));

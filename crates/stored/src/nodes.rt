@@ -2,10 +2,12 @@
 use crate::Node;
 use crate::bytes;
 use crate::bytes::wide;
+use crate::layout;
 ghost use mathlib.Core.Path.{_≡_};
 ghost use Prim.Native.Nat.{_+_, _*_, _≤_, _<_};
 ghost use lib.ListN.{length};
 ghost use Rattle.stored.specs.Bytes.{everyBelow};
+ghost use Rattle.stored.specs.Layout.{nodeSize};
 ghost use Rattle.stored.specs.Node.{nodeAt, requirementSorts, sortOf, qUse, aUse, bUse, fieldRight, fieldsRight, nodeRight, sortBelow, operandRight, operandsRight, isFormulaNode};
 
 // The sort of each op in kind 1: 0 none, 1 proposition, 2 formula.
@@ -177,10 +179,10 @@ pub fn b_use(op: usize) -> usize
 
 // Node i of a node part.
 pub fn node_at(nodes: &[u8], i: usize) -> Node
-    requires { ⌜ 6 * i + 6 ≤ length (now nodes) ⌝ }
+    requires { ⌜ nodeSize * i + nodeSize ≤ length (now nodes) ⌝ }
     ensures { λ r. ⌜ r ≡ nodeAt (now (nodes .entry)) i ⌝ }
 {
-    let at = 6 * i;
+    let at = layout::NODE_SIZE * i;
     let op = bytes::byte(nodes, at);
     let q = bytes::byte(nodes, at + 1);
     let a = bytes::word(nodes, at + 2);
@@ -219,7 +221,7 @@ fn fields_ok(s: usize, m: usize, x: Node) -> bool
 
 // Rule 6: every node's fields are right.
 pub fn nodes_ok(nodes: &[u8], n: usize, s: usize, m: usize) -> bool
-    requires { ⌜ 6 * n ≤ length (now nodes) ⌝ }
+    requires { ⌜ nodeSize * n ≤ length (now nodes) ⌝ }
     ensures { λ r. ⌜ r ≡ everyBelow n (nodeRight requirementSorts s m (nodeAt (now (nodes .entry)))) ⌝ }
 {
     let mut ok = true;
@@ -233,18 +235,18 @@ pub fn nodes_ok(nodes: &[u8], n: usize, s: usize, m: usize) -> bool
 
 // The sort of node v if it stands before node i, else 0.
 fn sort_below(nodes: &[u8], i: usize, v: usize) -> usize
-    requires { ⌜ 6 * i ≤ length (now nodes) ⌝ }
+    requires { ⌜ nodeSize * i ≤ length (now nodes) ⌝ }
     ensures { λ r. ⌜ r ≡ sortBelow requirementSorts (nodeAt (now (nodes .entry))) i v ⌝ }
 {
     if v < i {
-        sort_of(bytes::byte(nodes, 6 * v))
+        sort_of(bytes::byte(nodes, layout::NODE_SIZE * v))
     } else {
         0
     }
 }
 
 fn operand_ok(nodes: &[u8], i: usize, what: usize, v: usize) -> bool
-    requires { ⌜ 6 * i ≤ length (now nodes) ⌝ }
+    requires { ⌜ nodeSize * i ≤ length (now nodes) ⌝ }
     ensures { λ r. ⌜ r ≡ operandRight requirementSorts (nodeAt (now (nodes .entry))) i what v ⌝ }
 {
     let sort = sort_below(nodes, i, v);
@@ -254,7 +256,7 @@ fn operand_ok(nodes: &[u8], i: usize, what: usize, v: usize) -> bool
 }
 
 fn operands_ok_at(nodes: &[u8], i: usize) -> bool
-    requires { ⌜ 6 * i + 6 ≤ length (now nodes) ⌝ }
+    requires { ⌜ nodeSize * i + nodeSize ≤ length (now nodes) ⌝ }
     ensures { λ r. ⌜ r ≡ operandsRight requirementSorts (nodeAt (now (nodes .entry))) i ⌝ }
 {
     let x = node_at(nodes, i);
@@ -266,7 +268,7 @@ fn operands_ok_at(nodes: &[u8], i: usize) -> bool
 
 // Rule 7: every operand is an earlier node of the sort needed.
 pub fn operands_ok(nodes: &[u8], n: usize) -> bool
-    requires { ⌜ 6 * n ≤ length (now nodes) ⌝ }
+    requires { ⌜ nodeSize * n ≤ length (now nodes) ⌝ }
     ensures { λ r. ⌜ r ≡ everyBelow n (operandsRight requirementSorts (nodeAt (now (nodes .entry)))) ⌝ }
 {
     let mut ok = true;
@@ -279,7 +281,7 @@ pub fn operands_ok(nodes: &[u8], n: usize) -> bool
 }
 
 pub fn is_formula_node(nodes: &[u8], n: usize, i: usize) -> bool
-    requires { ⌜ 6 * n ≤ length (now nodes) ⌝ }
+    requires { ⌜ nodeSize * n ≤ length (now nodes) ⌝ }
     ensures { λ r. ⌜ r ≡ isFormulaNode requirementSorts (nodeAt (now (nodes .entry))) n i ⌝ }
 {
     sort_below(nodes, n, i) == 2

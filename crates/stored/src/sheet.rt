@@ -3,14 +3,16 @@ use crate::Header;
 use crate::SheetAnswer;
 use crate::bytes;
 use crate::clauses;
+use crate::layout;
 use crate::nodes;
 ghost use mathlib.Core.Path.{_≡_};
 ghost use Prim.Native.Nat.{_≤_};
 ghost use lib.ListN.{length};
+ghost use Rattle.stored.specs.Layout.{nodesStart};
 ghost use Rattle.stored.specs.Sheet.{headerOf, nodePart, clausePart, counted, sheetAnswer, sheetNumber};
 
 fn header(sheet: &[u8]) -> Header
-    requires { ⌜ 9 ≤ length (now sheet) ⌝ }
+    requires { ⌜ nodesStart ≤ length (now sheet) ⌝ }
     ensures { λ r. ⌜ r ≡ headerOf (now (sheet .entry)) ⌝ }
 {
     let signals = bytes::byte(sheet, 4);
@@ -32,10 +34,10 @@ fn counts_ok(h: Header) -> bool
     let m = h.names;
     let n = h.nodes;
     let c = h.clauses;
-    let signals = (1 <= s) & (s <= 16);
-    let names = m <= 3;
-    let nodes = (1 <= n) & (n <= 64);
-    let clauses = (1 <= c) & (c <= 8);
+    let signals = (1 <= s) & (s <= layout::MOST_SIGNALS);
+    let names = m <= layout::MOST_NAMES;
+    let nodes = (1 <= n) & (n <= layout::MOST_NODES);
+    let clauses = (1 <= c) & (c <= layout::MOST_CLAUSES);
     signals & (names & (nodes & clauses))
 }
 
@@ -43,7 +45,7 @@ fn counts_ok(h: Header) -> bool
 pub fn read_sheet(sheet: &[u8]) -> SheetAnswer
     ensures { λ r. ⌜ r ≡ sheetAnswer (now (sheet .entry)) ⌝ }
 {
-    if !bytes::is_framed(sheet, 9) {
+    if !bytes::is_framed(sheet, layout::NODES_START) {
         return SheetAnswer::Refused(1);
     }
     if bytes::byte(sheet, 2) != 1 {
@@ -59,12 +61,12 @@ pub fn read_sheet(sheet: &[u8]) -> SheetAnswer
     let m = h.names;
     let n = h.nodes;
     let c = h.clauses;
-    let middle = 9 + 6 * n;
-    let end = middle + 11 * c;
+    let middle = layout::nodes_end(n);
+    let end = layout::clauses_end(n, c);
     if sheet.len() != end {
         return SheetAnswer::Refused(5);
     }
-    let node_part = &sheet[9..middle];
+    let node_part = &sheet[layout::NODES_START..middle];
     let clause_part = &sheet[middle..end];
     if !nodes::nodes_ok(node_part, n, h.signals, m) {
         return SheetAnswer::Refused(6);
@@ -86,8 +88,8 @@ pub fn node_part(sheet: &[u8], h: Header) -> &[u8]
     requires { ⌜ sheetAnswer (now sheet) ≡ SheetAnswer.Accepted h ⌝ }
     ensures { λ r. ⌜ now r ≡ nodePart (now (sheet .entry)) ⌝ }
 {
-    let end = 9 + 6 * h.nodes;
-    &sheet[9..end]
+    let end = layout::nodes_end(h.nodes);
+    &sheet[layout::NODES_START..end]
 }
 
 // The clause part of an accepted sheet.
@@ -95,8 +97,8 @@ pub fn clause_part(sheet: &[u8], h: Header) -> &[u8]
     requires { ⌜ sheetAnswer (now sheet) ≡ SheetAnswer.Accepted h ⌝ }
     ensures { λ r. ⌜ now r ≡ clausePart (now (sheet .entry)) ⌝ }
 {
-    let start = 9 + 6 * h.nodes;
-    let end = start + 11 * h.clauses;
+    let start = layout::nodes_end(h.nodes);
+    let end = layout::clauses_end(h.nodes, h.clauses);
     &sheet[start..end]
 }
 

@@ -1,6 +1,7 @@
 // A trace: its frame, its cycles, and the order of its refusals.
 use crate::TraceAnswer;
 use crate::bytes;
+use crate::layout;
 use rows::mask::has;
 use rows::mask::only;
 ghost use mathlib.Core.Path.{_≡_};
@@ -9,6 +10,7 @@ ghost use lib.Dec.{ltb};
 ghost use lib.ListN.{length};
 ghost use Rattle.stored.specs.Bytes.{everyBelow};
 ghost use Rattle.stored.specs.Columns.{signalColumn, columnsOf};
+ghost use Rattle.stored.specs.Layout.{cyclesStart, cycleSize, mostSignals, mostCycles};
 ghost use Rattle.stored.specs.Trace.{cycleAt, cycleRight, traceAnswer, traceNumber};
 
 // No bit from s up is set.
@@ -16,7 +18,7 @@ fn is_below(w: usize, s: usize) -> bool
     requires { ⌜ w < 65536 ⌝ }
     ensures { λ r. ⌜ r ≡ ltb w (2 ^ s) ⌝ }
 {
-    if s < 16 {
+    if s < layout::MOST_SIGNALS {
         let end = 1usize << s;
         w < end
     } else {
@@ -26,14 +28,14 @@ fn is_below(w: usize, s: usize) -> bool
 
 // The word of cycle i.
 pub fn cycle_at(trace: &[u8], i: usize) -> usize
-    requires { ⌜ 2 * i + 6 ≤ length (now trace) ⌝ }
+    requires { ⌜ cycleSize * i + (cyclesStart + cycleSize) ≤ length (now trace) ⌝ }
     ensures { λ r. ⌜ (r ≡ cycleAt (now (trace .entry)) i) × (r < 65536) ⌝ }
 {
-    bytes::word(trace, 2 * i + 4)
+    bytes::word(trace, layout::CYCLE_SIZE * i + layout::CYCLES_START)
 }
 
 fn cycles_ok(trace: &[u8], n: usize, s: usize) -> bool
-    requires { ⌜ 2 * n + 4 ≤ length (now trace) ⌝ }
+    requires { ⌜ cycleSize * n + cyclesStart ≤ length (now trace) ⌝ }
     ensures { λ r. ⌜ r ≡ everyBelow n (cycleRight s (now (trace .entry))) ⌝ }
 {
     let mut ok = true;
@@ -49,7 +51,7 @@ fn cycles_ok(trace: &[u8], n: usize, s: usize) -> bool
 pub fn read_trace(trace: &[u8], s: usize) -> TraceAnswer
     ensures { λ r. ⌜ r ≡ traceAnswer s (now (trace .entry)) ⌝ }
 {
-    if !bytes::is_framed(trace, 4) {
+    if !bytes::is_framed(trace, layout::CYCLES_START) {
         return TraceAnswer::Refused(10);
     }
     if bytes::byte(trace, 2) != 1 {
@@ -58,14 +60,14 @@ pub fn read_trace(trace: &[u8], s: usize) -> TraceAnswer
     if bytes::byte(trace, 3) != s {
         return TraceAnswer::Refused(12);
     }
-    let n = (trace.len() - 4) / 2;
-    if trace.len() != 4 + 2 * n {
+    let n = (trace.len() - layout::CYCLES_START) / layout::CYCLE_SIZE;
+    if trace.len() != layout::CYCLES_START + layout::CYCLE_SIZE * n {
         return TraceAnswer::Refused(13);
     }
     if n < 1 {
         return TraceAnswer::Refused(13);
     }
-    if 64 < n {
+    if layout::MOST_CYCLES < n {
         return TraceAnswer::Refused(13);
     }
     if !cycles_ok(trace, n, s) {
@@ -85,14 +87,14 @@ pub fn trace_number(answer: TraceAnswer) -> usize
 }
 
 // How many columns a set has: sixteen for the signals, then three for the names.
-pub const COLUMNS: usize = 19;
+pub const COLUMNS: usize = layout::MOST_SIGNALS + layout::MOST_NAMES;
 
 // The column of name 0.
-pub const FIRST_NAME: usize = 16;
+pub const FIRST_NAME: usize = layout::MOST_SIGNALS;
 
 // The cycles at which signal k is set.
 fn signal_column(trace: &[u8], n: usize, k: usize) -> u64
-    requires { ⌜ (k < 64) × (n ≤ 64) × (2 * n + 4 ≤ length (now trace)) ⌝ }
+    requires { ⌜ (k < 64) × (n ≤ mostCycles) × (cycleSize * n + cyclesStart ≤ length (now trace)) ⌝ }
     ensures { λ r. ⌜ r ≡ signalColumn (now (trace .entry)) n k ⌝ }
 {
     let mut out: u64 = 0;
@@ -109,7 +111,7 @@ fn signal_column(trace: &[u8], n: usize, k: usize) -> u64
 
 // The columns of a trace of s signals and n cycles; no name is marked.
 pub fn columns(trace: &[u8], s: usize, n: usize) -> [u64; COLUMNS]
-    requires { ⌜ (s ≤ 16) × (n ≤ 64) × (2 * n + 4 ≤ length (now trace)) ⌝ }
+    requires { ⌜ (s ≤ mostSignals) × (n ≤ mostCycles) × (cycleSize * n + cyclesStart ≤ length (now trace)) ⌝ }
     ensures { λ r. ⌜ r ≡ columnsOf s n (now (trace .entry)) ⌝ }
 {
     let mut columns = [0u64; COLUMNS];

@@ -1,11 +1,13 @@
 // Writes one node, and the header of a kind 2 sheet, into lent bytes.
 use crate::Node;
 use crate::bytes;
+use crate::layout;
 ghost use mathlib.Core.Path.{_≡_};
-ghost use Prim.Native.Nat.{_+_, _*_, _/_, _%_, _≤_, _<_};
+ghost use Prim.Native.Nat.{_+_, _/_, _%_, _≤_, _<_};
 ghost use lib.ListN.{length};
+ghost use Rattle.stored.specs.Layout.{nodesStart, nodesEnd, following};
 ghost use Rattle.stored.specs.Sheet.{headerOf};
-ghost use Rattle.stored.specs.Written.{NodeFits, emittedLength, putNode, putHeader};
+ghost use Rattle.stored.specs.Written.{NodeFits, putNode, putHeader};
 
 fn high(v: usize) -> u8
     requires { ⌜ v < 65536 ⌝ }
@@ -21,10 +23,10 @@ fn low(v: usize) -> u8
 }
 
 pub fn put_node(out: &mut [u8], i: usize, x: Node)
-    requires { ⌜ (emittedLength (i + 1) ≤ length (now out)) × NodeFits x ⌝ }
+    requires { ⌜ (i < 65536) × (nodesEnd (i + 1) ≤ length (now out)) × NodeFits x ⌝ }
     ensures { λ _. ⌜ now (out .exit) ≡ putNode (now (out .entry)) i x ⌝ }
 {
-    let at = 9 + 6 * i;
+    let at = layout::nodes_end(i);
     let a = x.a;
     let b = x.b;
     out[at] = x.op as u8;
@@ -35,20 +37,12 @@ pub fn put_node(out: &mut [u8], i: usize, x: Node)
     out[at + 5] = low(b);
 }
 
-// How long a kind 2 sheet of n nodes is.
-pub fn emitted_length(n: usize) -> usize
-    requires { ⌜ n < 65536 ⌝ }
-    ensures { λ r. ⌜ r ≡ emittedLength n ⌝ }
-{
-    9 + 6 * n
-}
-
 // The header of a kind 2 sheet with s signals, m names and n nodes.
 pub fn put_header(out: &mut [u8], s: usize, m: usize, n: usize)
-    requires { ⌜ (9 ≤ length (now out)) × (s < 256) × (m < 256) × (7 + 6 * n < 65536) ⌝ }
+    requires { ⌜ (nodesStart ≤ length (now out)) × (s < 256) × (m < 256) × (following (nodesEnd n) < 65536) ⌝ }
     ensures { λ _. ⌜ now (out .exit) ≡ putHeader (now (out .entry)) s m n ⌝ }
 {
-    let rest = 7 + 6 * n;
+    let rest = layout::nodes_end(n) - 2;
     out[0] = high(rest);
     out[1] = low(rest);
     out[2] = 1;
@@ -62,7 +56,7 @@ pub fn put_header(out: &mut [u8], s: usize, m: usize, n: usize)
 
 // How many nodes the header counts.
 pub fn count(out: &[u8]) -> usize
-    requires { ⌜ 9 ≤ length (now out) ⌝ }
+    requires { ⌜ nodesStart ≤ length (now out) ⌝ }
     ensures { λ r. ⌜ (r ≡ headerOf (now (out .entry)) .nodes) × (r < 65536) ⌝ }
 {
     bytes::word(out, 6)

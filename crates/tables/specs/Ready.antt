@@ -11,6 +11,7 @@ use Rattle.rows.specs.Row.{word}
 use Rattle.stored.specs.declared.Node.{Node}
 use Rattle.stored.specs.Bytes.{everyBelow}
 use Rattle.stored.specs.Columns.{firstName, columnAt, IsColumns, traceOf, marksOf}
+use Rattle.stored.specs.Layout.{nodeSize, mostSignals, mostNames, mostNodes, mostCycles}
 use Rattle.stored.specs.Node.{requirementSorts, nodeAt, nodeRight, operandsRight}
 use Rattle.stored.specs.Reach.{joint, nameMask, reachTable, entryOf}
 use Rattle.tables.specs.Table.{rowAt, Table}
@@ -19,14 +20,14 @@ use Rattle.tables.specs.Table.{rowAt, Table}
 pub record Given (nodes : List ℕ) (count n : ℕ) (columns words : List ℕ) : Type 0 where
   pub signals : ℕ
   pub names : ℕ
-  pub few-signals : signals ≤ 16
-  pub few-names : names ≤ 3
-  pub few-nodes : count ≤ 64
-  pub nodes-long : 6 * count ≤ length nodes
+  pub few-signals : signals ≤ mostSignals
+  pub few-names : names ≤ mostNames
+  pub few-nodes : count ≤ mostNodes
+  pub nodes-long : nodeSize * count ≤ length nodes
   pub fields : everyBelow count (nodeRight requirementSorts signals names (nodeAt nodes)) ≡ true
   pub operands : everyBelow count (operandsRight requirementSorts (nodeAt nodes)) ≡ true
   pub some-cycles : 1 ≤ n
-  pub few-cycles : n ≤ 64
+  pub few-cycles : n ≤ mostCycles
   pub columned : IsColumns n columns
   pub words-long : 64 * count ≤ length words
 

@@ -19,9 +19,10 @@ use Rattle.stored.specs.declared.SheetAnswer.{SheetAnswer}
 use Rattle.stored.specs.Bytes.{word, framedFrom}
 use Rattle.stored.specs.Node.{emittedSorts, sortOf, sortBelow, nodeRight, isFormulaNode}
 use Rattle.stored.specs.Tree.{pick, formulaAt}
-use Rattle.stored.specs.Sheet.{headerOf, sheetEnd, nodePart, clausePart, nodesOf, storedOf, framed, versioned, sized, sheetRefusal, sheetAnswer, sheetNumber, clauseIn, clausesOf, requirementOf}
+use Rattle.stored.specs.Sheet.{headerOf, nodePart, clausePart, nodesOf, storedOf, framed, versioned, sized, sheetRefusal, sheetAnswer, sheetNumber, clauseIn, clausesOf, requirementOf}
 use Rattle.stored.specs.Emitted.{ofKindTwo, emittedCounted, rootOf, emittedFormula, emittedNodes, emittedOperands, isEmitted, emittedTrue}
-use Rattle.stored.specs.Written.{nodeIn, putHeader, emittedHeader, emittedLength}
+use Rattle.stored.specs.Layout.{nodesEnd, clausesEnd, following, leastOutput}
+use Rattle.stored.specs.Written.{nodeIn, putHeader, emittedHeader}
 use Rattle.stored.proofs.Rules.{every-all}
 use Rattle.stored.proofs.Tree.{formula-agree}
 use Rattle.stored.proofs.Written.{header-length, header-back, header-byte, header-read, header-rest, nodes-in, taken-byte, taken-header, taken-node}
@@ -40,7 +41,7 @@ use Rattle.clauses.proofs.Joining.{joined-bound}
 use Rattle.semantics.proofs.Closed.{translation-closed}
 
 -- ---- an empty kind 2 sheet
-module _ (x y : List ℕ) (s m : ℕ) (big : 8192 ≤ length x) (e : y ≡ putHeader x s m 0) where
+module _ (x y : List ℕ) (s m : ℕ) (big : leastOutput ≤ length x) (e : y ≡ putHeader x s m 0) where
   head : headerOf y ≡ record { signals = s; names = m; nodes = 0; clauses = 0 }
   head = ap headerOf e ∙ header-read x s m 0 (omega arith)
 
@@ -65,7 +66,7 @@ module _ (x y : List ℕ) (s m : ℕ) (big : 8192 ≤ length x) (e : y ≡ putHe
       let size = empty-length in
       record {
         long = omega arith;
-        rest = ap (λ (l : List ℕ). word l 0) e ∙ header-rest x s m 0 (omega arith) ∙ ap (λ (n : ℕ). 7 + 6 * n) (sym none);
+        rest = ap (λ (l : List ℕ). word l 0) e ∙ header-rest x s m 0 (omega arith) ∙ ap (λ (n : ℕ). following (nodesEnd n)) (sym none);
         version = ap (λ (l : List ℕ). getD l 2 0) e ∙ header-byte x s m 0 (omega arith) 2 (omega arith);
         kind = ap (λ (l : List ℕ). getD l 3 0) e ∙ header-byte x s m 0 (omega arith) 3 (omega arith);
         some-signals = omega arith;
@@ -106,71 +107,71 @@ clauses-same s = refl
 
 -- ---- a finished sheet, cut to its length
 module _ (y : List ℕ) (r : ℕ) (f : Formula) (good : Good y) (has : Has y r f) (last : count y ≡ r + 1) (closed : within noNames f ≡ true) where
-  fits : 15 + 6 * r ≤ length y
+  fits : nodesEnd (r + 1) ≤ length y
   fits = omega (arith, good .few-nodes, good .long)
 
-  pub cut-length : length (take (15 + 6 * r) y) ≡ 15 + 6 * r
+  pub cut-length : length (take (nodesEnd (r + 1)) y) ≡ nodesEnd (r + 1)
   cut-length = simp length-take (omega (arith, fits))
 
-  pub cut-header : headerOf (take (15 + 6 * r) y) ≡ headerOf y
-  cut-header = taken-header (15 + 6 * r) y (omega arith)
+  pub cut-header : headerOf (take (nodesEnd (r + 1)) y) ≡ headerOf y
+  cut-header = taken-header (nodesEnd (r + 1)) y (omega arith)
 
-  cut-node : (i : ℕ) → i < count y → nodesOf (take (15 + 6 * r) y) i ≡ nodeIn y i
+  cut-node : (i : ℕ) → i < count y → nodesOf (take (nodesEnd (r + 1)) y) i ≡ nodeIn y i
   cut-node i l =
-      nodes-in (take (15 + 6 * r) y) i (rw cut-header l) ∙ taken-node (15 + 6 * r) y i (omega arith)
+      nodes-in (take (nodesEnd (r + 1)) y) i (rw cut-header l) ∙ taken-node (nodesEnd (r + 1)) y i (omega arith)
 
-  cut-word : word (take (15 + 6 * r) y) 0 ≡ word y 0
+  cut-word : word (take (nodesEnd (r + 1)) y) 0 ≡ word y 0
   unfolding word
-  cut-word = rw (taken-byte (15 + 6 * r) y 0 (omega arith), taken-byte (15 + 6 * r) y (0 + 1) (omega arith))
+  cut-word = rw (taken-byte (nodesEnd (r + 1)) y 0 (omega arith), taken-byte (nodesEnd (r + 1)) y (0 + 1) (omega arith))
 
-  root-is : rootOf (take (15 + 6 * r) y) ≡ r
+  root-is : rootOf (take (nodesEnd (r + 1)) y) ≡ r
   unfolding rootOf
   root-is = rw cut-header (omega arith)
 
-  pub cut-formula : emittedFormula (take (15 + 6 * r) y) ≡ f
+  pub cut-formula : emittedFormula (take (nodesEnd (r + 1)) y) ≡ f
   unfolding emittedFormula formulaIn
   cut-formula =
-      ap (formulaAt (nodesOf (take (15 + 6 * r) y))) root-is
-      ∙ formula-agree (nodesOf (take (15 + 6 * r) y)) (nodeIn y) r (λ k l. cut-node k (omega arith))
+      ap (formulaAt (nodesOf (take (nodesEnd (r + 1)) y))) root-is
+      ∙ formula-agree (nodesOf (take (nodesEnd (r + 1)) y)) (nodeIn y) r (λ k l. cut-node k (omega arith))
       ∙ has .tree
 
-  is-cut-framed : framed (take (15 + 6 * r) y) ≡ true
+  is-cut-framed : framed (take (nodesEnd (r + 1)) y) ≡ true
   unfolding framed framedFrom
   is-cut-framed =
       let size = cut-length in
       let rest = cut-word in
       let told = good .rest in
-      let long : 9 ≤ length (take (15 + 6 * r) y) = omega arith in
-      let told : word (take (15 + 6 * r) y) 0 ≡ length (take (15 + 6 * r) y) - 2 = omega arith in
+      let long : 9 ≤ length (take (nodesEnd (r + 1)) y) = omega arith in
+      let told : word (take (nodesEnd (r + 1)) y) 0 ≡ length (take (nodesEnd (r + 1)) y) - 2 = omega arith in
       and-intro _ _ (le-leb _ _ long) (eq-eqb _ _ told)
 
-  is-cut-counted : emittedCounted (headerOf (take (15 + 6 * r) y)) ≡ true
+  is-cut-counted : emittedCounted (headerOf (take (nodesEnd (r + 1)) y)) ≡ true
   unfolding emittedCounted
   is-cut-counted =
       rw cut-header
       (and-intro _ _ (and-intro _ _ (le-leb _ _ (good .some-signals)) (le-leb _ _ (good .few-signals)))
       (and-intro _ _ (le-leb _ _ (good .few-names)) (and-intro _ _ (le-leb 1 (count y) (omega arith)) (eq-eqb _ _ (good .no-clauses)))))
 
-  is-cut-sized : sized (take (15 + 6 * r) y) ≡ true
-  unfolding sized sheetEnd
+  is-cut-sized : sized (take (nodesEnd (r + 1)) y) ≡ true
+  unfolding sized
   is-cut-sized =
       rw cut-header
-      (eq-eqb (length (take (15 + 6 * r) y)) (9 + 6 * headerOf y .nodes + 11 * headerOf y .clauses) (omega (arith, cut-length, good .no-clauses)))
+      (eq-eqb (length (take (nodesEnd (r + 1)) y)) (clausesEnd (headerOf y .nodes) (headerOf y .clauses)) (omega (arith, cut-length, good .no-clauses)))
 
-  is-root : isFormulaNode emittedSorts (nodesOf (take (15 + 6 * r) y)) (headerOf (take (15 + 6 * r) y) .nodes) (rootOf (take (15 + 6 * r) y)) ≡ true
+  is-root : isFormulaNode emittedSorts (nodesOf (take (nodesEnd (r + 1)) y)) (headerOf (take (nodesEnd (r + 1)) y) .nodes) (rootOf (take (nodesEnd (r + 1)) y)) ≡ true
   unfolding isFormulaNode sortBelow
   is-root =
       rw (root-is, cut-header)
       (rw (lt-ltb r (count y) (omega arith)) (eq-eqb _ _ (ap (λ (n : Node). sortOf emittedSorts (n .op)) (cut-node r (omega arith)) ∙ has .sorted)))
 
-  pub is-emitted : isEmitted (take (15 + 6 * r) y) ≡ true
+  pub is-emitted : isEmitted (take (nodesEnd (r + 1)) y) ≡ true
   unfolding versioned ofKindTwo emittedNodes emittedOperands nodeRight
   is-emitted =
-      emitted-made (take (15 + 6 * r) y)
+      emitted-made (take (nodesEnd (r + 1)) y)
       (record {
         is-framed = is-cut-framed;
-        is-versioned = eq-eqb _ _ (taken-byte (15 + 6 * r) y 2 (omega arith) ∙ good .version);
-        of-kind-two = eq-eqb _ _ (taken-byte (15 + 6 * r) y 3 (omega arith) ∙ good .kind);
+        is-versioned = eq-eqb _ _ (taken-byte (nodesEnd (r + 1)) y 2 (omega arith) ∙ good .version);
+        of-kind-two = eq-eqb _ _ (taken-byte (nodesEnd (r + 1)) y 3 (omega arith) ∙ good .kind);
         is-counted = is-cut-counted;
         is-sized = is-cut-sized;
         nodes-right =
@@ -182,13 +183,13 @@ module _ (y : List ℕ) (r : ℕ) (f : Formula) (good : Good y) (has : Has y r f
             every-all _ _
             (λ i l.
             let below : i < count y = rw cut-header at l in
-            operands-same (nodeIn y) (nodesOf (take (15 + 6 * r) y)) i (λ k q. cut-node k (omega arith)) ∙ good .operands-right i below);
+            operands-same (nodeIn y) (nodesOf (take (nodesEnd (r + 1)) y)) i (λ k q. cut-node k (omega arith)) ∙ good .operands-right i below);
         root-formula = is-root;
         root-closed = ap (within noNames) cut-formula ∙ closed;
       })
 
 -- ---- the whole run
-module _ (s x y₀ y₁ y₂ : List ℕ) (r : ℕ) (o : Opened s) (big : 8192 ≤ length x)
+module _ (s x y₀ y₁ y₂ : List ℕ) (r : ℕ) (o : Opened s) (big : leastOutput ≤ length x)
     (e₀ : y₀ ≡ putHeader x (headerOf s .signals) (headerOf s .names) 0)
     (s₁ : Step y₀ y₁ (3 + 2 * headerOf s .names))
     (e₂ : Emits y₁ y₂ r (requirementCost (nodePart s) (headerOf s .nodes) (headerOf s .clauses) (headerOf y₁ .names)) (translation (clausesAt (nodePart s) (clausePart s) (headerOf s .clauses))))
@@ -218,7 +219,7 @@ module _ (s x y₀ y₁ y₂ : List ℕ) (r : ℕ) (o : Opened s) (big : 8192 �
         joined-bound (headerOf s .clauses) (headerOf s .names) (o .in-range .some-clauses) (o .in-range .few-names),
       )
 
-  pub formula-written : FormulaOf s (take (15 + 6 * r) y₂)
+  pub formula-written : FormulaOf s (take (nodesEnd (r + 1)) y₂)
   unfolding emittedTrue requirementOf
   formula-written =
       let h = cut-header y₂ r _ good₂ (e₂ .has) last closed in
@@ -233,14 +234,14 @@ module _ (s x y₀ y₁ y₂ : List ℕ) (r : ℕ) (o : Opened s) (big : 8192 �
             ∙ agreement σ positive (clausesOf s) (accepted-fits s o);
       }
 
-  pub length-written : length (take (15 + 6 * r) y₂) ≡ 15 + 6 * r
+  pub length-written : length (take (nodesEnd (r + 1)) y₂) ≡ nodesEnd (r + 1)
   length-written = cut-length y₂ r _ good₂ (e₂ .has) last closed
 
-  pub later-kept : drop (15 + 6 * r) y₂ ≡ drop (15 + 6 * r) x
+  pub later-kept : drop (nodesEnd (r + 1)) y₂ ≡ drop (nodesEnd (r + 1)) x
   later-kept =
-      steps s₁ (e₂ .step) .back (15 + 6 * r) (omega arith)
-      ∙ ap (drop (15 + 6 * r)) e₀
-      ∙ header-back x (headerOf s .signals) (headerOf s .names) 0 (15 + 6 * r) (omega arith)
+      steps s₁ (e₂ .step) .back (nodesEnd (r + 1)) (omega arith)
+      ∙ ap (drop (nodesEnd (r + 1))) e₀
+      ∙ header-back x (headerOf s .signals) (headerOf s .names) 0 (nodesEnd (r + 1)) (omega arith)
 
   pub size-kept : length y₂ ≡ length x
   size-kept = steps s₁ (e₂ .step) .size ∙ empty-length x y₀ (headerOf s .signals) (headerOf s .names) big e₀
@@ -283,14 +284,14 @@ module _ (s x : List ℕ) (answer : SheetAnswer) (h : Header) (told : answer ≡
   pub opened-sheet : Opened s
   opened-sheet = Rattle.stored.proofs.Accepted.opened s no-number
 
-  pub output-refused : length x < 8192 → Translated s x x (Refused 14)
+  pub output-refused : length x < leastOutput → Translated s x x (Refused 14)
   unfolding translateRefusal
-  output-refused l = refused-law s x 14 (rw (no-number, lt-ltb (length x) 8192 l)) (λ z. omega arith)
+  output-refused l = refused-law s x 14 (rw (no-number, lt-ltb (length x) leastOutput l)) (λ z. omega arith)
 
-  pub translated : (y : List ℕ) (l : ℕ) → 8192 ≤ length x → length y ≡ length x → FormulaOf s (take l y) → length (take l y) ≡ l → drop l y ≡ drop l x → Translated s x y (Written l)
+  pub translated : (y : List ℕ) (l : ℕ) → leastOutput ≤ length x → length y ≡ length x → FormulaOf s (take l y) → length (take l y) ≡ l → drop l y ≡ drop l x → Translated s x y (Written l)
   unfolding translateRefusal translateAnswer writtenLength pick
   translated y l big size formula long later =
-      let none : translateRefusal s (length x) ≡ 0 = rw (no-number, le-ltb (length x) 8192 big) in
+      let none : translateRefusal s (length x) ≡ 0 = rw (no-number, le-ltb (length x) leastOutput big) in
       record {
         answer = rw none;
         size = size;
@@ -310,13 +311,12 @@ pub record Run (s x : List ℕ) (h : Header) (y : List ℕ) (r : ℕ) : Type 0 w
       Emits y₁ y r (requirementCost (nodePart s) (h .nodes) (h .clauses) (headerOf y₁ .names)) (translation (clausesAt (nodePart s) (clausePart s) (h .clauses)))
   pub last : count y ≡ r + 1
 
-pub run-translated : (s x : List ℕ) (answer : SheetAnswer) (h : Header) → answer ≡ sheetAnswer s → answer ≡ SheetAnswer.Accepted h → (y : List ℕ) (r l : ℕ) → l ≡ emittedLength (r + 1) → 8192 ≤ length x → Run s x h y r → Translated s x y (Written l)
+pub run-translated : (s x : List ℕ) (answer : SheetAnswer) (h : Header) → answer ≡ sheetAnswer s → answer ≡ SheetAnswer.Accepted h → (y : List ℕ) (r l : ℕ) → l ≡ nodesEnd (r + 1) → leastOutput ≤ length x → Run s x h y r → Translated s x y (Written l)
 run-translated s x answer h told taken y r l e big run =
     let o = opened-sheet s x answer h told taken in
     let u : Run s x (headerOf s) y r = subst (λ (g : Header). Run s x g y r) (sym (header-is s x answer h told taken)) run in
-    let long : l ≡ 15 + 6 * r = omega (arith, e) in
-    rw long
-    (translated s x answer h told taken y (15 + 6 * r) big
+    rw e
+    (translated s x answer h told taken y (nodesEnd (r + 1)) big
     (size-kept s x (u .y₀) (u .y₁) y r o big (u .headed) (u .shared) (u .required) (u .last))
     (formula-written s x (u .y₀) (u .y₁) y r o big (u .headed) (u .shared) (u .required) (u .last))
     (length-written s x (u .y₀) (u .y₁) y r o big (u .headed) (u .shared) (u .required) (u .last))

@@ -2,6 +2,7 @@
 use clauses::requirement;
 use emission::shared;
 use stored::SheetAnswer;
+use stored::layout;
 use stored::sheet;
 use stored::writer;
 ghost use Rattle.translator.specs.Translated.{Translated};
@@ -20,7 +21,7 @@ pub fn translate(sheet: &[u8], out: &mut [u8]) -> TranslateAnswer
     let SheetAnswer::Accepted(h) = answer else {
         return TranslateAnswer::Refused(sheet::sheet_number(answer));
     };
-    if out.len() < 8192 {
+    if out.len() < layout::LEAST_OUTPUT {
         return TranslateAnswer::Refused(14);
     }
     let nodes = sheet::node_part(sheet, h);
@@ -29,5 +30,5 @@ pub fn translate(sheet: &[u8], out: &mut [u8]) -> TranslateAnswer
     writer::put_header(out, h.signals, m, 0);
     shared::put_shared(out, m);
     let root = requirement::put_requirement(out, nodes, h.nodes, clauses, h.clauses);
-    TranslateAnswer::Written(writer::emitted_length(root + 1))
+    TranslateAnswer::Written(layout::nodes_end(root + 1))
 }

@@ -21,7 +21,7 @@ struct Node {
 }
 
 struct Clause {
-    kind: u8,
+    clause_type: u8,
     role: u8,
     roots: [usize; 3],
     masks: [u8; 3],
@@ -85,7 +85,7 @@ impl Checker {
             .map(|i| {
                 let at = 9 + 6 * n + 11 * i;
                 Clause {
-                    kind: sheet[at],
+                    clause_type: sheet[at],
                     role: sheet[at + 1],
                     roots: [2, 4, 6].map(|off| field(sheet, at + off)),
                     masks: [8, 9, 10].map(|off| sheet[at + off]),
@@ -241,7 +241,7 @@ impl Checker {
     fn first_broken(&mut self, c: usize) -> Option<usize> {
         let clause = &self.clauses[c];
         let [m1, m2, m3] = clause.masks;
-        let (universal, answering) = match clause.kind {
+        let (universal, answering) = match clause.clause_type {
             1 => (0, m1),
             2 => (m2, m1),
             3 => (m1, 0),
@@ -301,9 +301,9 @@ impl Checker {
     }
 
     fn unanswered(&mut self, c: usize, inner: &[usize], best: &mut usize) {
-        let Clause { kind, roots, masks, .. } = self.clauses[c];
+        let Clause { clause_type, roots, masks, .. } = self.clauses[c];
         let cycles = self.cycles;
-        match kind {
+        match clause_type {
             1 => {
                 let missing = !self.answers(roots[0], masks[0], inner)[0] & below_bit(cycles);
                 if missing != 0 {
@@ -329,7 +329,7 @@ impl Checker {
                     return;
                 }
                 let answers =
-                    if kind == 3 { [0; 64] } else { self.answers(roots[1], masks[1], inner) };
+                    if clause_type == 3 { [0; 64] } else { self.answers(roots[1], masks[1], inner) };
                 for i in 0..cycles {
                     let open = first[i] & !answers[i];
                     if open != 0 {
@@ -343,7 +343,7 @@ impl Checker {
     }
 
     fn unanswered_limited(&mut self, c: usize, inner: &[usize], best: &mut usize) {
-        let Clause { kind, roots, masks, .. } = self.clauses[c];
+        let Clause { clause_type, roots, masks, .. } = self.clauses[c];
         let cycles = self.cycles;
         let mut first = [0; 64];
         let mut third = [0; 64];
@@ -361,7 +361,7 @@ impl Checker {
             while ends != 0 {
                 let j = ends.trailing_zeros() as usize;
                 ends &= ends - 1;
-                let x = if kind == 5 { j } else { i };
+                let x = if clause_type == 5 { j } else { i };
                 if third[x] != 0 {
                     let k = third[x].trailing_zeros() as usize;
                     if answers[x] & below_bit(k + 1) == 0 {

@@ -185,9 +185,9 @@ impl Sheet {
 
     // Clauses.
 
-    fn clause(&mut self, kind: u8, role: Role, parts: &[Part]) {
+    fn clause(&mut self, clause_type: u8, role: Role, parts: &[Part]) {
         let mut clause = [0; 11];
-        clause[0] = kind;
+        clause[0] = clause_type;
         clause[1] = role as u8;
         for (p, Part(root, names)) in parts.iter().enumerate() {
             clause[2 + 2 * p..4 + 2 * p].copy_from_slice(&root.0.to_be_bytes());

@@ -143,13 +143,13 @@ fn clauses(random: &mut Random, sheet: &mut Sheet, shape: Shape, formulas: &[Nod
         let parts = [0; 3].map(|_| part(random, sheet));
         // A first clause that is mostly a commitment, so that verdicts are mixed.
         let role = if random.one_in(if c == 0 { 6 } else { 3 }) { Assumption } else { Commitment };
-        let kind = random.between(1, 6);
-        clause(sheet, kind, role, parts);
+        let clause_type = random.between(1, 6);
+        clause(sheet, clause_type, role, parts);
     }
 }
 
-fn clause(sheet: &mut Sheet, kind: usize, role: Role, [d1, d2, d3]: [Part; 3]) {
-    match kind {
+fn clause(sheet: &mut Sheet, clause_type: usize, role: Role, [d1, d2, d3]: [Part; 3]) {
+    match clause_type {
         1 => sheet.pref(role, d1),
         2 => sheet.init(role, d1, d2),
         3 => sheet.anti(role, d1),
@@ -170,8 +170,8 @@ pub fn drawn(random: &mut Random, shape: Shape) -> Sheet {
             Part(root, reach(&sheet, root))
         });
         let role = if random.one_in(if c == 0 { 6 } else { 3 }) { Assumption } else { Commitment };
-        let kind = random.between(1, 6);
-        clause(&mut sheet, kind, role, parts);
+        let clause_type = random.between(1, 6);
+        clause(&mut sheet, clause_type, role, parts);
     }
     sheet
 }
@@ -238,8 +238,8 @@ pub fn marked(random: &mut Random, shape: Shape) -> Sheet {
         let extra = if random.one_in(3) { random.below(1 << shape.names) as u8 } else { 0 };
         Part(root, reach(&sheet, root) | extra)
     });
-    let kind = random.pick(&[1, 2, 2, 3, 4, 4, 5, 5, 5, 6, 6, 6]);
-    clause(&mut sheet, kind, Commitment, parts);
+    let clause_type = random.pick(&[1, 2, 2, 3, 4, 4, 5, 5, 5, 6, 6, 6]);
+    clause(&mut sheet, clause_type, Commitment, parts);
     sheet
 }
 

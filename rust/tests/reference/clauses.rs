@@ -81,7 +81,7 @@ impl<'a> Clauses<'a> {
     pub fn first_broken(&self, clause: &Clause) -> Option<Cycles> {
         let part = |p: usize| Part { root: clause.roots[p], names: clause.masks[p] };
         let last = self.cycles - 1;
-        match clause.kind {
+        match clause.clause_type {
             1 => (0..=last).find(|&j| self.pref_breaks(part(0), j)).map(|j| (0, j, j)),
             2 => (0..=last).find(|&j| self.init_breaks(part(0), part(1), j)).map(|j| (0, j, j)),
             3 => self.intervals().find(|&(i, j)| self.anti_breaks(part(0), i, j)).map(doubled),
@@ -90,7 +90,7 @@ impl<'a> Clauses<'a> {
                 .find(|&(i, j)| self.implies_breaks(part(0), part(1), i, j))
                 .map(doubled),
             5 | 6 => {
-                let start = |i, j| if clause.kind == 5 { j } else { i };
+                let start = |i, j| if clause.clause_type == 5 { j } else { i };
                 self.intervals().find_map(|(i, j)| {
                     let x = start(i, j);
                     (x..=last)
@@ -98,7 +98,7 @@ impl<'a> Clauses<'a> {
                         .map(|k| (i, j, k))
                 })
             }
-            kind => panic!("no clause type: {kind}"),
+            clause_type => panic!("no clause type: {clause_type}"),
         }
     }
 

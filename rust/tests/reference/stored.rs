@@ -13,7 +13,7 @@ pub struct Node {
 
 #[derive(Clone, Copy, Debug, PartialEq, Eq)]
 pub struct Clause {
-    pub kind: u8,
+    pub clause_type: u8,
     pub role: u8,
     pub roots: [usize; 3],
     pub masks: [u8; 3],
@@ -22,7 +22,7 @@ pub struct Clause {
 impl Clause {
     /// How many of the three roots and masks the clause's type uses.
     pub fn parts(&self) -> usize {
-        match self.kind {
+        match self.clause_type {
             1 | 3 => 1,
             2 | 4 => 2,
             _ => 3,
@@ -107,7 +107,7 @@ pub fn read(bytes: &[u8]) -> Sheet {
         b: field(bytes, at + 4),
     };
     let clause = |at: usize| Clause {
-        kind: bytes[at],
+        clause_type: bytes[at],
         role: bytes[at + 1],
         roots: [field(bytes, at + 2), field(bytes, at + 4), field(bytes, at + 6)],
         masks: [bytes[at + 8], bytes[at + 9], bytes[at + 10]],
@@ -197,7 +197,7 @@ pub fn some_operand_is_wrong(sheet: &Sheet) -> bool {
 
 fn some_clause_is_wrong(sheet: &Sheet) -> bool {
     sheet.clauses.iter().any(|clause| {
-        if !(1..=6).contains(&clause.kind) || clause.role > 1 {
+        if !(1..=6).contains(&clause.clause_type) || clause.role > 1 {
             return true;
         }
         (0..3).any(|part| {

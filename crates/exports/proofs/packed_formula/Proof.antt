@@ -2,6 +2,7 @@
 use Prim.Native.Nat.{_≤_}
 use mathlib.Core.Path.{sym, ap, subst}
 use borrow.Author.Needs.{needs}
+use Rattle.stored.specs.Layout.{leastOutput}
 use Rattle.translator.specs.declared.TranslateAnswer.{TranslateAnswer}
 use Rattle.exports.specs.Packed.{packedFormula, SmallFormula}
 use Rattle.exports.proofs.packed_formula.Statement.{statement}
@@ -12,12 +13,12 @@ enum-known-answer c = search needs
 
 mul-result : tie.Need-mul-result
 mul-result c =
-    let small : c .before .answer .given .0 .0 ≤ 8192 = subst (λ (x : TranslateAnswer). SmallFormula x) (c .before .answer .given .1) (c .before .before .before .pre) in
+    let small : c .before .answer .given .0 .0 ≤ leastOutput = subst (λ (x : TranslateAnswer). SmallFormula x) (c .before .answer .given .1) (c .before .before .before .pre) in
     search needs
 
 add-result : tie.Need-add-result
 add-result c =
-    let small : c .before .answer .given .0 .0 ≤ 8192 = subst (λ (x : TranslateAnswer). SmallFormula x) (c .before .answer .given .1) (c .before .before .before .pre) in
+    let small : c .before .answer .given .0 .0 ≤ leastOutput = subst (λ (x : TranslateAnswer). SmallFormula x) (c .before .answer .given .1) (c .before .before .before .pre) in
     search needs
 
 enum-known-answer-2 : tie.Need-enum-known-answer-2
@@ -25,7 +26,7 @@ enum-known-answer-2 c = search needs
 
 mul-result-2 : tie.Need-mul-result-2
 mul-result-2 c =
-    let small : c .before .answer2 .given .0 .0 ≤ 8192 = subst (λ (x : TranslateAnswer). SmallFormula x) (c .before .answer2 .given .1) (c .before .before .before .pre) in
+    let small : c .before .answer2 .given .0 .0 ≤ leastOutput = subst (λ (x : TranslateAnswer). SmallFormula x) (c .before .answer2 .given .1) (c .before .before .before .pre) in
     search needs
 
 returns : tie.Need-returns

@@ -70,18 +70,18 @@ put-requirement-requires c κs =
     let after = c .before .before .before .before .before .before .before .before .before .clause-part .ensures in
     (c .before .before .before .put-shared .ensures .0, omega (arith, s .few, empty-count _ _ _ _ big e, k .few-names), nodes-read _ _ (head (c .before .before .before .before .before .before .before .before .before .before .before)) (opened (c .before .before .before .before .before .before .before .before .before .before .before)) _ signals names _ at, clauses-read _ _ (head (c .before .before .before .before .before .before .before .before .before .before .before)) (opened (c .before .before .before .before .before .before .before .before .before .before .before)) _ signals names _ _ at after _ (omega arith))
 
-add-emitted-length : tie.Need-add-emitted-length
-add-emitted-length c = omega (arith, c .before .before .put-requirement .ensures .0 .step .good .few-nodes, c .before .before .put-requirement .ensures .1)
+add-nodes-end : tie.Need-add-nodes-end
+add-nodes-end c = omega (arith, c .before .before .put-requirement .ensures .0 .step .good .few-nodes, c .before .before .put-requirement .ensures .1)
 
-emitted-length-requires : tie.Need-emitted-length-requires
-emitted-length-requires c κs = omega (arith, c .before .before .put-requirement .ensures .0 .step .good .few-nodes, c .before .before .put-requirement .ensures .1)
+nodes-end-requires : tie.Need-nodes-end-requires
+nodes-end-requires c κs = omega (arith, c .before .before .put-requirement .ensures .0 .step .good .few-nodes, c .before .before .put-requirement .ensures .1)
 
 same-length : tie.Need-same-length
 same-length c = steps (c .before .before .before .before .before .before .before .put-shared .ensures .1) (c .before .before .before .put-requirement .ensures .0 .step) .size ∙ c .before .before .before .before .before .before .before .before .before .before .before .put-header .kept .0
 
 returns-3 : tie.Need-returns-3
 returns-3 c =
-    run-translated _ _ _ _ (c .before .before .before .before .before .before .before .before .before .before .before .before .before .before .before .before .before .before .before .read-sheet .ensures) (c .before .before .before .before .before .before .before .before .before .before .before .before .before .before .before .before .before .answer .given .1) _ _ _ (c .emitted-length .ensures) (c .before .before .before .before .before .before .before .before .before .before .before .before .before .before .before .if1 .left)
+    run-translated _ _ _ _ (c .before .before .before .before .before .before .before .before .before .before .before .before .before .before .before .before .before .before .before .read-sheet .ensures) (c .before .before .before .before .before .before .before .before .before .before .before .before .before .before .before .before .before .answer .given .1) _ _ _ (c .nodes-end .ensures) (c .before .before .before .before .before .before .before .before .before .before .before .before .before .before .before .if1 .left)
     (record {
       y₀ = c .before .before .before .before .before .before .before .before .before .before .before .put-header .last .0;
       y₁ = c .before .before .before .before .before .before .before .put-shared .last .0;
@@ -106,7 +106,7 @@ translate-spec =
     put-header-requires
     put-shared-requires
     put-requirement-requires
-    add-emitted-length
-    emitted-length-requires
+    add-nodes-end
+    nodes-end-requires
     same-length
     returns-3)

@@ -7,7 +7,7 @@ use Rattle.checker.proofs.check.clause_place.Statement.{statement}
 use Rattle.checker.proofs.check.clause_place.Tie as tie
 
 task-of-requires : tie.Need-task-of-requires
-task-of-requires c κs = omega (arith, c .before .before .before .before .before .pre .1 .0 .kind-least, c .before .before .before .before .before .pre .1 .0 .kind-most)
+task-of-requires c κs = omega (arith, c .before .before .before .before .before .pre .1 .0 .type-least, c .before .before .before .before .before .pre .1 .0 .type-most)
 
 walk-requires : tie.Need-walk-requires
 walk-requires c κs =

@@ -9,12 +9,12 @@ use Rattle.emission.proofs.Calls.{free}
 use Rattle.clauses.proofs.placing.put_name.Statement.{statement}
 use Rattle.clauses.proofs.placing.put_name.Tie as tie
 
-has-requires : tie.Need-has-requires
-has-requires c κs = omega arith
+has-name-requires : tie.Need-has-name-requires
+has-name-requires c κs = omega arith
 
 returns : tie.Need-returns
 unfolding placedName onceName
-returns c = rw (sym (c .before .has .ensures) ∙ not-true _ (c .if1 .taken)) there
+returns c = rw (sym (c .before .has-name .ensures) ∙ not-true _ (c .if1 .taken)) there
 
 mul-put-and : tie.Need-mul-put-and
 mul-put-and c = omega arith
@@ -22,8 +22,8 @@ mul-put-and c = omega arith
 add-put-and : tie.Need-add-put-and
 add-put-and c = omega arith
 
-has-requires-2 : tie.Need-has-requires-2
-has-requires-2 c κs = omega arith
+has-name-requires-2 : tie.Need-has-name-requires-2
+has-name-requires-2 c κs = omega arith
 
 same-length : tie.Need-same-length
 same-length c = search needs
@@ -33,7 +33,7 @@ unfolding placedName onceName
 returns-2 c =
     let c1 = c .before .before .before .before in
     let c0 = c1 .before .before in
-    rw (sym (c0 .before .has .ensures) ∙ not-false _ (c0 .if1 .left), sym (c .before .has2 .ensures) ∙ c .if2 .taken)
+    rw (sym (c0 .before .has-name .ensures) ∙ not-false _ (c0 .if1 .left), sym (c .before .has-name2 .ensures) ∙ c .if2 .taken)
     (conjoined marked there (c1 .put-and .ensures))
 
 same-length-2 : tie.Need-same-length-2
@@ -45,10 +45,10 @@ returns-3 c =
     let c2 = c .before .before .before .before in
     let c1 = c2 .before .before .before .before in
     let c0 = c1 .before .before in
-    rw (sym (c0 .before .has .ensures) ∙ not-false _ (c0 .if1 .left), sym (c2 .before .has2 .ensures) ∙ c2 .if2 .left)
+    rw (sym (c0 .before .has-name .ensures) ∙ not-false _ (c0 .if1 .left), sym (c2 .before .has-name2 .ensures) ∙ c2 .if2 .left)
     (columned (conjoined marked there (c1 .put-and .ensures)) (c .before .before .put-some .ensures))
 
 pub put-name-spec : {M : Type 1} → statement M
 put-name-spec =
     tie.close
-    (tie.spec has-requires returns mul-put-and add-put-and free has-requires-2 same-length returns-2 free same-length-2 returns-3)
+    (tie.spec has-name-requires returns mul-put-and add-put-and free has-name-requires-2 same-length returns-2 free same-length-2 returns-3)

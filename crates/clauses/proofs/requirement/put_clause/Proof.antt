@@ -5,8 +5,8 @@ use Rattle.clauses.specs.Clauses.{brokenIn}
 use Rattle.clauses.proofs.requirement.put_clause.Statement.{statement}
 use Rattle.clauses.proofs.requirement.put_clause.Tie as tie
 
-put-kind-requires : tie.Need-put-kind-requires
-put-kind-requires c κs = search needs
+put-typed-requires : tie.Need-put-typed-requires
+put-typed-requires c κs = search needs
 
 same-length : tie.Need-same-length
 same-length c = search needs
@@ -15,7 +15,7 @@ returns : tie.Need-returns
 unfolding brokenIn
 returns c =
     let d = c .before .before .before .before in
-    rw (d .before .before .entry-of .ensures, d .before .entry-of2 .ensures, d .entry-of3 .ensures) at (c .before .before .put-kind .ensures)
+    rw (d .before .before .entry-of .ensures, d .before .entry-of2 .ensures, d .entry-of3 .ensures) at (c .before .before .put-typed .ensures)
 
 pub put-clause-spec : {M : Type 1} → statement M
-put-clause-spec = tie.close (tie.spec free free free put-kind-requires same-length returns)
+put-clause-spec = tie.close (tie.spec free free free put-typed-requires same-length returns)

@@ -37,7 +37,7 @@ add-next c = search needs
 put-node-requires : tie.Need-put-node-requires
 put-node-requires c κs =
     let f = known (c .before .before .before .before .before .before .before) in
-    (omega (arith, f .long, f .room, c .before .count .ensures .0), f .fields)
+    (c .before .count .ensures .1, omega (arith, f .long, f .room, c .before .count .ensures .0), f .fields)
 
 put-header-requires : tie.Need-put-header-requires
 put-header-requires c κs =

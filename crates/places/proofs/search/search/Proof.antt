@@ -5,31 +5,31 @@ use mathlib.Core.Path.{_≡_, refl, sym, _∙_}
 use native.Mathlib.Omega.{arith}
 use borrow.Author.Needs.{needs}
 use Rattle.semantics.specs.Proposition.{bit}
-use Rattle.places.specs.Rows.{kindOf}
+use Rattle.places.specs.Rows.{typeOf}
 use Rattle.places.proofs.Searching.{RowsPassed, EndsPassed, CyclesPassed, first-end, next-end, first-cycle, next-cycle, found-least, next-row, none-found}
 use Rattle.places.proofs.search.search.Statement.{statement}
 use Rattle.places.proofs.search.search.Tie as tie
 
 abbrev Inv-loop2 : tie.InvT-loop2
-Inv-loop2 kind first third answers n best rows place₀ i from j to k₀ place k =
-    (place ≡ best) × (k < 64 → bit to k ≡ true) × CyclesPassed (kindOf kind) first third answers n i j k
+Inv-loop2 type first third answers n best rows place₀ i from j to k₀ place k =
+    (place ≡ best) × (k < 64 → bit to k ≡ true) × CyclesPassed (typeOf type) first third answers n i j k
 
 abbrev μ-loop2 : tie.MeasureT-loop2
-μ-loop2 kind first third answers n best rows place₀ i from j to k₀ place k = n - k
+μ-loop2 type first third answers n best rows place₀ i from j to k₀ place k = n - k
 
 abbrev Inv-loop : tie.InvT-loop
-Inv-loop kind first third answers n best rows place₀ i from j₀ place j =
-    (place ≡ best) × (j < 64 → bit from j ≡ true) × EndsPassed (kindOf kind) first third answers n i j
+Inv-loop type first third answers n best rows place₀ i from j₀ place j =
+    (place ≡ best) × (j < 64 → bit from j ≡ true) × EndsPassed (typeOf type) first third answers n i j
 
 abbrev μ-loop : tie.MeasureT-loop
-μ-loop kind first third answers n best rows place₀ i from j₀ place j = n - j
+μ-loop type first third answers n best rows place₀ i from j₀ place j = n - j
 
 abbrev Inv-places : tie.InvT-places
-Inv-places kind first third answers n best rows place₀ i₀ place i =
-    (place ≡ best) × (i ≤ rows) × RowsPassed (kindOf kind) first third answers n i
+Inv-places type first third answers n best rows place₀ i₀ place i =
+    (place ≡ best) × (i ≤ rows) × RowsPassed (typeOf type) first third answers n i
 
 abbrev μ-places : tie.MeasureT-places
-μ-places kind first third answers n best rows place₀ i₀ place i = rows - i
+μ-places type first third answers n best rows place₀ i₀ place i = rows - i
 
 add-lesser : tie.Need-add-lesser Inv-loop2 μ-loop2 Inv-loop μ-loop Inv-places μ-places
 add-lesser c = search needs
@@ -66,7 +66,7 @@ loop-holds c =
     let from = c .before .starts in (
       c .before .before .before .before .before .places .inv .0,
       c .next .ensures .ok,
-      first-end (kindOf (a .kind)) (a .first .now) (a .third .now) (a .answers .now) (a .n) (c .before .before .before .before .before .places .i) (from .result) (from .ensures) (c .next .result) (c .next .ensures),
+      first-end (typeOf (a .clause-type)) (a .first .now) (a .third .now) (a .answers .now) (a .n) (c .before .before .before .before .before .places .i) (from .result) (from .ensures) (c .next .result) (c .next .ensures),
     )
 
 ends-requires : tie.Need-ends-requires Inv-loop2 μ-loop2 Inv-loop μ-loop Inv-places μ-places
@@ -83,7 +83,7 @@ loop2-holds c =
     let to = c .before .ends in (
       l .inv .0,
       c .next2 .ensures .ok,
-      first-cycle (kindOf (a .kind)) (a .first .now) (a .third .now) (a .answers .now) (a .n) (c .before .before .before .before .before .before .before .before .before .places .i) (from .result) (from .ensures) (l .j) (to .result) (to .ensures) (c .next2 .result) (c .next2 .ensures),
+      first-cycle (typeOf (a .clause-type)) (a .first .now) (a .third .now) (a .answers .now) (a .n) (c .before .before .before .before .before .before .before .before .before .places .i) (from .result) (from .ensures) (l .j) (to .result) (to .ensures) (c .next2 .result) (c .next2 .ensures),
     )
 
 no-reply-requires :
@@ -124,7 +124,7 @@ loop2-again c =
     let m = c .before .before .before .before .loop2 in (
       m .inv .0,
       c .next3 .ensures .ok,
-      next-cycle (kindOf (a .kind)) (a .first .now) (a .third .now) (a .answers .now) (a .n) (c .before .before .before .before .before .before .before .before .before .before .before .before .before .before .places .i) (from .result) (from .ensures) (l .j) (to .result) (to .ensures) (m .k)
+      next-cycle (typeOf (a .clause-type)) (a .first .now) (a .third .now) (a .answers .now) (a .n) (c .before .before .before .before .before .before .before .before .before .before .before .before .before .before .places .i) (from .result) (from .ensures) (l .j) (to .result) (to .ensures) (m .k)
           (c .next3 .result) (c .next3 .ensures) (sym (c .before .before .no-reply .ensures) ∙ c .before .if1 .left) (m .inv .2),
     )
 
@@ -145,7 +145,7 @@ loop-again c =
     let m = c .before .before .loop2 in (
       m .inv .0,
       c .next4 .ensures .ok,
-      next-end (kindOf (a .kind)) (a .first .now) (a .third .now) (a .answers .now) (a .n) (c .before .before .before .before .before .before .before .before .before .before .before .before .places .i) (from .result) (from .ensures) (l .j) (c .next4 .result) (c .next4 .ensures) (l .inv .2)
+      next-end (typeOf (a .clause-type)) (a .first .now) (a .third .now) (a .answers .now) (a .n) (c .before .before .before .before .before .before .before .before .before .before .before .before .places .i) (from .result) (from .ensures) (l .j) (c .next4 .result) (c .next4 .ensures) (l .inv .2)
           (λ k h n. m .inv .2 k (omega arith) n),
     )
 
@@ -160,13 +160,13 @@ places-again c =
     let a = c .before .before .before .before .before .before .before .before .before .before .before .before .args in
     let p = c .before .before .before .before .before .before .before .places in
     let l = c .before .loop in
-    (l .inv .0, omega arith, next-row (kindOf (a .kind)) (a .first .now) (a .third .now) (a .answers .now) (a .n) (p .i) (p .inv .2) (λ j k h m n. l .inv .2 j k (omega arith) m n))
+    (l .inv .0, omega arith, next-row (typeOf (a .clause-type)) (a .first .now) (a .third .now) (a .answers .now) (a .n) (p .i) (p .inv .2) (λ j k h m n. l .inv .2 j k (omega arith) m n))
 
 returns : tie.Need-returns Inv-loop2 μ-loop2 Inv-loop μ-loop Inv-places μ-places
 returns c =
     let a = c .before .before .before .before .before .before .args in
     let p = c .before .places in
-    rw (p .inv .0) (none-found (kindOf (a .kind)) (a .first .now) (a .third .now) (a .answers .now) (a .n) (a .best) (λ i j k h. p .inv .2 i j k (omega (arith, c .before .before .lesser .ensures))))
+    rw (p .inv .0) (none-found (typeOf (a .clause-type)) (a .first .now) (a .third .now) (a .answers .now) (a .n) (a .best) (λ i j k h. p .inv .2 i j k (omega (arith, c .before .before .lesser .ensures))))
 
 returns-2 : tie.Need-returns-2 Inv-loop2 μ-loop2 Inv-loop μ-loop Inv-places μ-places
 returns-2 c =
@@ -179,7 +179,7 @@ returns-2 c =
     let few = c .before .before .before .before .before .before .before .before .before .before .before .before .before .before .before .before .before .before .before .pre .0 .0 in
     let inside : p .i < a .n = omega (arith, c .before .before .before .before .before .before .before .before .before .before .before .before .before .before .before .lesser .ensures) in
     rw (c .lesser2 .ensures)
-    (found-least (kindOf (a .kind)) (a .first .now) (a .third .now) (a .answers .now) (a .n) (p .i) (from .result) (from .ensures) (l .j) (to .result) (to .ensures) (m .k) (a .best)
+    (found-least (typeOf (a .clause-type)) (a .first .now) (a .third .now) (a .answers .now) (a .n) (p .i) (from .result) (from .ensures) (l .j) (to .result) (to .ensures) (m .k) (a .best)
     (c .before .before .before .before .before .before .before .before .before .before .before .before .before .before .before .before .before .before .before .pre .0 .1) few inside (omega arith) (omega arith) (l .inv .1 (omega arith)) (m .inv .1 (omega arith))
     (sym (c .before .before .no-reply .ensures) ∙ c .before .if1 .taken) (p .inv .2) (l .inv .2) (m .inv .2))
 

@@ -10,8 +10,8 @@ use borrow.Author.Needs.{needs}
 use Rattle.places.proofs.task.task_of.Statement.{statement}
 use Rattle.places.proofs.task.task_of.Tie as tie
 
-kind-numbered-requires : tie.Need-kind-numbered-requires
-kind-numbered-requires c κs = search needs
+type-numbered-requires : tie.Need-type-numbered-requires
+type-numbered-requires c κs = search needs
 
 choose-requires : tie.Need-choose-requires
 choose-requires c κs = search needs
@@ -45,17 +45,17 @@ unfolding taskOf
 returns c =
     let d = c .before .before .before .before .before .before .before .before .before .before .before .args .d in
     let late = c .before .before .choose7 .ensures in
-    let inner = c .before .choose8 .ensures ∙ ap (λ (x : ℕ). cond (eqb (d .kind) 2) (d .mask2) x) late in
-    let quantified = c .choose9 .ensures ∙ ap (λ (x : ℕ). cond (eqb (d .kind) 1) 0 x) inner in
+    let inner = c .before .choose8 .ensures ∙ ap (λ (x : ℕ). cond (eqb (d .«clause_type») 2) (d .mask2) x) late in
+    let quantified = c .choose9 .ensures ∙ ap (λ (x : ℕ). cond (eqb (d .«clause_type») 1) 0 x) inner in
     let replies = c .before .before .before .before .choose6 .ensures in
-    same-task (c .before .before .before .before .before .before .before .before .before .before .kind-numbered .ensures) (c .before .before .before .before .before .before .before .before .before .choose .ensures) (c .before .before .before .before .before .before .before .before .choose2 .ensures) (c .before .before .before .before .before .before .before .choose3 .ensures) (c .before .before .before .before .before .before .choose4 .ensures)
+    same-task (c .before .before .before .before .before .before .before .before .before .before .type-numbered .ensures) (c .before .before .before .before .before .before .before .before .before .choose .ensures) (c .before .before .before .before .before .before .before .before .choose2 .ensures) (c .before .before .before .before .before .before .before .choose3 .ensures) (c .before .before .before .before .before .before .choose4 .ensures)
     (c .before .before .before .before .before .choose5 .ensures) replies quantified (ap₂ (λ (x y : ℕ). bitAnd x (2 ^ 64 - 1 - y)) replies quantified)
 
 pub task-of-spec : {M : Type 1} → statement M
 task-of-spec =
     tie.close
     (tie.spec
-    kind-numbered-requires
+    type-numbered-requires
     choose-requires
     choose-requires-2
     choose-requires-3

@@ -24,7 +24,7 @@ use Rattle.places.proofs.walk.walk.Reads as walk
 use Rattle.places.proofs.walk.walk.Kinds as walk-kinds
 use Rattle.places.proofs.walk.+find+walk.Lts-walk as walk-lts
 use Rattle.places.proofs.choice.choose.Reads as choose-reads
-use Rattle.places.proofs.choice.has_name.Reads as has-name-reads
+use Rattle.stored.proofs.masks.has_name.Reads as has-name-reads
 use Rattle.places.proofs.gather.add.Reads as add-reads
 use Rattle.places.proofs.search.search.Reads as search-reads
 use Rattle.places.proofs.walk.answer.Reads as answer-reads

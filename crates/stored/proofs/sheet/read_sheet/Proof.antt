@@ -8,7 +8,7 @@ use mathlib.Core.Bool.{true}
 use borrow.Author.Tests.{eq-eqb, ne-eqb, not-true, not-false}
 use denote.Ref.{now}
 use Rattle.stored.specs.declared.SheetAnswer.the-variants.{Accepted}
-use Rattle.stored.specs.Sheet.{headerOf, clausesStart, sheetEnd, nodePart, clausePart, nodesOf, storedOf, framed, versioned, ofKindOne, counted, sized, nodesRight, operandsFound, clausesRight, clausesNamed}
+use Rattle.stored.specs.Sheet.{headerOf, nodePart, clausePart, nodesOf, storedOf, framed, versioned, ofKindOne, counted, sized, nodesRight, operandsFound, clausesRight, clausesNamed}
 use Rattle.stored.proofs.Accepted.{Counts, counts}
 use Rattle.stored.proofs.Answer.{Framed, Sized, framed-long, covered-named, refused1, refused2, refused3, refused4, refused5, refused6, refused7, refused8, refused9, accepted}
 
@@ -39,42 +39,42 @@ rule4 c = told4 (c .before) ∙ not-false _ (c .if4 .left)
 known : (c : tie.Else4) → Counts (c .before .before .header .result)
 known c = counts (c .before .before .header .result) (sym (c .before .counts-ok .ensures) ∙ not-false _ (c .if4 .left))
 
-size : (c : tie.Else5) → Sized (now (c .before .before .before .before .before .before .before .before .before .before .before .args .sheet))
-unfolding sized sheetEnd
+size : (c : tie.Else5) → Sized (now (c .before .before .before .before .before .before .before .before .before .before .before .before .before .args .sheet))
+unfolding sized
 size c =
     record {
-      frame = frame (c .before .before .before .before);
-      rule4 = rule4 (c .before);
-      rule5 = rw (← c .before .before .before .header .ensures) (eq-eqb _ _ (c .if5 .left));
+      frame = frame (c .before .before .before .before .before .before);
+      rule4 = rule4 (c .before .before .before);
+      rule5 = rw (← c .before .before .before .before .before .header .ensures) (eq-eqb _ _ (c .if5 .left ∙ c .before .clauses-end .ensures));
     }
 
-told6 : (c : tie.After-nodes-ok) → nodesRight (now (c .before .before .before .before .before .before .before .before .before .before .before .before .before .before .args .sheet)) ≡ c .nodes-ok .result
-unfolding nodesRight nodesOf nodePart clausesStart
-told6 c = rw (← c .before .before .before .before .before .before .header .ensures) (sym (c .nodes-ok .ensures))
+told6 : (c : tie.After-nodes-ok) → nodesRight (now (c .before .before .before .before .before .before .before .before .before .before .before .before .before .before .before .before .args .sheet)) ≡ c .nodes-ok .result
+unfolding nodesRight nodesOf nodePart
+told6 c = rw (← c .before .before .before .before .before .before .before .before .header .ensures, ← c .before .before .before .before .before .nodes-end .ensures) (sym (c .nodes-ok .ensures))
 
-rule6 : (c : tie.Else6) → nodesRight (now (c .before .before .before .before .before .before .before .before .before .before .before .before .before .before .before .args .sheet)) ≡ true
+rule6 : (c : tie.Else6) → nodesRight (now (c .before .before .before .before .before .before .before .before .before .before .before .before .before .before .before .before .before .args .sheet)) ≡ true
 rule6 c = told6 (c .before) ∙ not-false _ (c .if6 .left)
 
-told7 : (c : tie.After-operands-ok) → operandsFound (now (c .before .before .before .before .before .before .before .before .before .before .before .before .before .before .before .before .args .sheet)) ≡ c .operands-ok .result
-unfolding operandsFound nodesOf nodePart clausesStart
-told7 c = rw (← c .before .before .before .before .before .before .before .before .header .ensures) (sym (c .operands-ok .ensures))
+told7 : (c : tie.After-operands-ok) → operandsFound (now (c .before .before .before .before .before .before .before .before .before .before .before .before .before .before .before .before .before .before .args .sheet)) ≡ c .operands-ok .result
+unfolding operandsFound nodesOf nodePart
+told7 c = rw (← c .before .before .before .before .before .before .before .before .before .before .header .ensures, ← c .before .before .before .before .before .before .before .nodes-end .ensures) (sym (c .operands-ok .ensures))
 
-rule7 : (c : tie.Else7) → operandsFound (now (c .before .before .before .before .before .before .before .before .before .before .before .before .before .before .before .before .before .args .sheet)) ≡ true
+rule7 : (c : tie.Else7) → operandsFound (now (c .before .before .before .before .before .before .before .before .before .before .before .before .before .before .before .before .before .before .before .args .sheet)) ≡ true
 rule7 c = told7 (c .before) ∙ not-false _ (c .if7 .left)
 
-told8 : (c : tie.After-clauses-ok) → clausesRight (now (c .before .before .before .before .before .before .before .before .before .before .before .before .before .before .before .before .before .before .args .sheet)) ≡ c .clauses-ok .result
-unfolding clausesRight nodesOf storedOf nodePart clausePart clausesStart sheetEnd
-told8 c = rw (← c .before .before .before .before .before .before .before .before .before .before .header .ensures) (sym (c .clauses-ok .ensures))
+told8 : (c : tie.After-clauses-ok) → clausesRight (now (c .before .before .before .before .before .before .before .before .before .before .before .before .before .before .before .before .before .before .before .before .args .sheet)) ≡ c .clauses-ok .result
+unfolding clausesRight nodesOf storedOf nodePart clausePart
+told8 c = rw (← c .before .before .before .before .before .before .before .before .before .before .before .before .header .ensures, ← c .before .before .before .before .before .before .before .before .clauses-end .ensures, ← c .before .before .before .before .before .before .before .before .before .nodes-end .ensures) (sym (c .clauses-ok .ensures))
 
-rule8 : (c : tie.Else8) → clausesRight (now (c .before .before .before .before .before .before .before .before .before .before .before .before .before .before .before .before .before .before .before .args .sheet)) ≡ true
+rule8 : (c : tie.Else8) → clausesRight (now (c .before .before .before .before .before .before .before .before .before .before .before .before .before .before .before .before .before .before .before .before .before .args .sheet)) ≡ true
 rule8 c = told8 (c .before) ∙ not-false _ (c .if8 .left)
 
-told9 : (c : tie.After-clauses-covered) → clausesNamed (now (c .before .before .before .before .before .before .before .before .before .before .before .before .before .before .before .before .before .before .before .before .args .sheet)) ≡ c .clauses-covered .result
-unfolding nodesOf storedOf nodePart clausePart clausesStart sheetEnd
+told9 : (c : tie.After-clauses-covered) → clausesNamed (now (c .before .before .before .before .before .before .before .before .before .before .before .before .before .before .before .before .before .before .before .before .before .before .args .sheet)) ≡ c .clauses-covered .result
+unfolding nodesOf storedOf nodePart clausePart
 told9 c =
     let start = c .before .before .before .before .before .before .before .before .before in
-    sym (covered-named _ (rule4 (start .before)) (rule6 (c .before .before .before .before .before)) (rule7 (c .before .before .before)) (rule8 (c .before)))
-    ∙ rw (← start .before .before .before .header .ensures) (sym (c .clauses-covered .ensures))
+    sym (covered-named _ (rule4 (start .before .before .before)) (rule6 (c .before .before .before .before .before)) (rule7 (c .before .before .before)) (rule8 (c .before)))
+    ∙ rw (← start .before .before .before .before .before .header .ensures, ← start .before .clauses-end .ensures, ← start .before .before .nodes-end .ensures) (sym (c .clauses-covered .ensures))
 
 is-framed-requires : tie.Need-is-framed-requires
 is-framed-requires c κs = omega arith
@@ -106,21 +106,17 @@ counts-ok-requires c κs = omega arith
 returns-4 : tie.Need-returns-4
 returns-4 c = refused4 _ (frame (c .before .before .before)) (told4 (c .before) ∙ not-true _ (c .if4 .taken))
 
-mul-middle : tie.Need-mul-middle
-mul-middle c = omega (arith, known c)
+nodes-end-requires : tie.Need-nodes-end-requires
+nodes-end-requires c κs = omega (arith, known c)
 
-add-middle : tie.Need-add-middle
-add-middle c = omega (arith, known c)
-
-mul-end : tie.Need-mul-end
-mul-end c = omega (arith, known c)
-
-add-end : tie.Need-add-end
-add-end c = omega (arith, known c)
+clauses-end-requires : tie.Need-clauses-end-requires
+clauses-end-requires c κs = let many = known (c .before) in (omega arith, omega arith)
 
 returns-5 : tie.Need-returns-5
-unfolding sized sheetEnd
-returns-5 c = refused5 _ (frame (c .before .before .before .before)) (rule4 (c .before)) (rw (← c .before .before .before .header .ensures) (ne-eqb _ _ (c .if5 .taken)))
+unfolding sized
+returns-5 c =
+    refused5 _ (frame (c .before .before .before .before .before .before)) (rule4 (c .before .before .before))
+    (rw (← c .before .before .before .before .before .header .ensures) (ne-eqb _ _ (λ e. c .if5 .taken (e ∙ sym (c .before .clauses-end .ensures)))))
 
 sub-node-part : tie.Need-sub-node-part
 sub-node-part c = omega arith
@@ -159,7 +155,7 @@ returns-8 : tie.Need-returns-8
 returns-8 c = refused8 _ (size (c .before .before .before .before .before .before .before .before)) (rule6 (c .before .before .before .before)) (rule7 (c .before .before)) (told8 (c .before) ∙ not-true _ (c .if8 .taken))
 
 clauses-covered-requires : tie.Need-clauses-covered-requires
-clauses-covered-requires c κs = let many = known (c .before .before .before .before .before .before .before .before .before) in search needs
+clauses-covered-requires c κs = let many = known (c .before .before .before .before .before .before .before .before .before .before .before) in search needs
 
 returns-9 : tie.Need-returns-9
 returns-9 c = refused9 _ (size (c .before .before .before .before .before .before .before .before .before .before)) (rule6 (c .before .before .before .before .before .before)) (rule7 (c .before .before .before .before)) (rule8 (c .before .before)) (told9 (c .before) ∙ not-true _ (c .if9 .taken))
@@ -167,7 +163,7 @@ returns-9 c = refused9 _ (size (c .before .before .before .before .before .befor
 returns-10 : tie.Need-returns-10
 returns-10 c =
     let start = c .before .before .before .before .before .before .before .before .before .before in
-    ap Accepted (start .before .before .before .header .ensures)
+    ap Accepted (start .before .before .before .before .before .header .ensures)
     ∙ accepted _ (size start) (rule6 (c .before .before .before .before .before .before)) (rule7 (c .before .before .before .before)) (rule8 (c .before .before)) (told9 (c .before) ∙ not-false _ (c .if9 .left))
 
 pub read-sheet-spec : {M : Type 1} → statement M
@@ -183,10 +179,8 @@ read-sheet-spec =
     header-requires
     counts-ok-requires
     returns-4
-    mul-middle
-    add-middle
-    mul-end
-    add-end
+    nodes-end-requires
+    clauses-end-requires
     returns-5
     sub-node-part
     part-node-part-start

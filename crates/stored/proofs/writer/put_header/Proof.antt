@@ -6,11 +6,11 @@ use Rattle.stored.proofs.writer.put_header.Statement.{statement}
 use Rattle.stored.proofs.writer.put_header.Tie as tie
 use Rattle.stored.specs.Written.{emittedHeader, putHeader}
 
-mul-rest : tie.Need-mul-rest
-mul-rest c = omega arith
+nodes-end-requires : tie.Need-nodes-end-requires
+nodes-end-requires c κs = omega arith
 
-add-rest : tie.Need-add-rest
-add-rest c = omega arith
+sub-rest : tie.Need-sub-rest
+sub-rest c = omega (arith, c .nodes-end .ensures)
 
 high-requires : tie.Need-high-requires
 high-requires c κs = omega arith
@@ -62,14 +62,14 @@ same-length c = search needs
 
 returns : tie.Need-returns
 unfolding putHeader emittedHeader
-returns c = rw (c .before .before .before .high .ensures, c .before .before .low .ensures, c .before .high2 .ensures, c .low2 .ensures)
+returns c = rw (c .before .before .before .high .ensures, c .before .before .low .ensures, c .before .high2 .ensures, c .low2 .ensures, c .before .before .before .before .nodes-end .ensures)
 
 pub put-header-spec : {M : Type 1} → statement M
 put-header-spec =
     tie.close
     (tie.spec
-    mul-rest
-    add-rest
+    nodes-end-requires
+    sub-rest
     high-requires
     slice-write-out
     low-requires

@@ -7,11 +7,8 @@ use Rattle.stored.proofs.writer.put_node.Tie as tie
 use native.Mathlib.Numerals.{towards-suc}
 use Rattle.stored.specs.Written.{nodeBytes, putNode}
 
-mul-at : tie.Need-mul-at
-mul-at c = omega arith
-
-add-at : tie.Need-add-at
-add-at c = omega arith
+nodes-end-requires : tie.Need-nodes-end-requires
+nodes-end-requires c κs = omega arith
 
 cast-out : tie.Need-cast-out
 cast-out c = omega arith
@@ -69,14 +66,13 @@ same-length c = search needs
 
 returns : tie.Need-returns
 unfolding putNode nodeBytes
-returns c = rw (c .before .before .before .high .ensures, c .before .before .low .ensures, c .before .high2 .ensures, c .low2 .ensures) (simp towards-suc)
+returns c = rw (c .before .before .before .high .ensures, c .before .before .low .ensures, c .before .high2 .ensures, c .low2 .ensures, c .before .before .before .before .before .before .nodes-end .ensures) (simp towards-suc)
 
 pub put-node-spec : {M : Type 1} → statement M
 put-node-spec =
     tie.close
     (tie.spec
-    mul-at
-    add-at
+    nodes-end-requires
     cast-out
     slice-write-out
     cast-out-2

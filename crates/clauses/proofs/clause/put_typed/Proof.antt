@@ -1,31 +1,31 @@
--- `clauses::clause::put_kind` meets its contract.
+-- `clauses::clause::put_typed` meets its contract.
 use borrow.Author.Needs.{needs}
 use Rattle.semantics.specs.Translation.{brokenOf}
-use Rattle.stored.specs.Clause.{kindOf}
+use Rattle.stored.specs.Clause.{typeOf}
 use Rattle.emission.proofs.Calls.{free}
 use Rattle.clauses.proofs.Broken.{pref-is}
-use Rattle.clauses.proofs.clause.put_kind.Statement.{statement}
-use Rattle.clauses.proofs.clause.put_kind.Tie as tie
+use Rattle.clauses.proofs.clause.put_typed.Statement.{statement}
+use Rattle.clauses.proofs.clause.put_typed.Tie as tie
 
 same-length : tie.Need-same-length
 same-length c = search needs
 
 returns : tie.Need-returns
-unfolding kindOf brokenOf
+unfolding typeOf brokenOf
 returns c = rw (c .before .before .before .before .if1 .taken) (c .before .before .put-init .ensures)
 
 same-length-2 : tie.Need-same-length-2
 same-length-2 c = search needs
 
 returns-2 : tie.Need-returns-2
-unfolding kindOf brokenOf
+unfolding typeOf brokenOf
 returns-2 c = rw (c .before .before .before .before .if2 .taken) (c .before .before .put-anti .ensures)
 
 same-length-3 : tie.Need-same-length-3
 same-length-3 c = search needs
 
 returns-3 : tie.Need-returns-3
-unfolding kindOf brokenOf
+unfolding typeOf brokenOf
 returns-3 c = rw (c .before .before .before .before .if3 .taken) (c .before .before .put-implies .ensures)
 
 put-follows-requires : tie.Need-put-follows-requires
@@ -35,7 +35,7 @@ same-length-4 : tie.Need-same-length-4
 same-length-4 c = search needs
 
 returns-4 : tie.Need-returns-4
-unfolding kindOf brokenOf
+unfolding typeOf brokenOf
 returns-4 c = rw (c .before .before .before .before .if4 .taken) (c .before .before .put-follows .ensures)
 
 put-triggers-requires : tie.Need-put-triggers-requires
@@ -45,7 +45,7 @@ same-length-5 : tie.Need-same-length-5
 same-length-5 c = search needs
 
 returns-5 : tie.Need-returns-5
-unfolding kindOf brokenOf
+unfolding typeOf brokenOf
 returns-5 c = rw (c .before .before .before .before .if5 .taken) (c .before .before .put-triggers .ensures)
 
 same-length-6 : tie.Need-same-length-6
@@ -60,8 +60,8 @@ returns-6 c =
     let d2 = d3 .before in
     rw (pref-is _ (d2 .before .if1 .left) (d2 .if2 .left) (d3 .if3 .left) (d4 .if4 .left) (d5 .if5 .left)) (c .before .before .put-pref .ensures)
 
-pub put-kind-spec : {M : Type 1} → statement M
-put-kind-spec =
+pub put-typed-spec : {M : Type 1} → statement M
+put-typed-spec =
     tie.close
     (tie.spec
     free same-length returns

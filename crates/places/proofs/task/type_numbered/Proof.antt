@@ -1,45 +1,45 @@
--- `places::task::kind_numbered` meets its contract.
+-- `places::task::type_numbered` meets its contract.
 use mathlib.Core.Path.{_≡_, sym, ap}
 use native.Mathlib.Omega.{arith}
-use Rattle.places.specs.Task.{kindNumbered}
-use Rattle.places.proofs.task.kind_numbered.Statement.{statement}
-use Rattle.places.proofs.task.kind_numbered.Tie as tie
+use Rattle.places.specs.Task.{typeNumbered}
+use Rattle.places.proofs.task.type_numbered.Statement.{statement}
+use Rattle.places.proofs.task.type_numbered.Tie as tie
 
 returns : tie.Need-returns
-unfolding kindNumbered
+unfolding typeNumbered
 returns c =
     let at : c .before .args .number ≡ 1 = c .match .keys1 in
-    sym (ap kindNumbered at)
+    sym (ap typeNumbered at)
 
 returns-2 : tie.Need-returns-2
-unfolding kindNumbered
+unfolding typeNumbered
 returns-2 c =
     let at : c .before .args .number ≡ 2 = c .match .keys2 in
-    sym (ap kindNumbered at)
+    sym (ap typeNumbered at)
 
 returns-3 : tie.Need-returns-3
-unfolding kindNumbered
+unfolding typeNumbered
 returns-3 c =
     let at : c .before .args .number ≡ 3 = c .match .keys3 in
-    sym (ap kindNumbered at)
+    sym (ap typeNumbered at)
 
 returns-4 : tie.Need-returns-4
-unfolding kindNumbered
+unfolding typeNumbered
 returns-4 c =
     let at : c .before .args .number ≡ 4 = c .match .keys4 in
-    sym (ap kindNumbered at)
+    sym (ap typeNumbered at)
 
 returns-5 : tie.Need-returns-5
-unfolding kindNumbered
+unfolding typeNumbered
 returns-5 c =
     let at : c .before .args .number ≡ 5 = c .match .keys5 in
-    sym (ap kindNumbered at)
+    sym (ap typeNumbered at)
 
 returns-6 : tie.Need-returns-6
-unfolding kindNumbered
+unfolding typeNumbered
 returns-6 c =
     let at : c .before .args .number ≡ 6 = omega arith in
-    sym (ap kindNumbered at)
+    sym (ap typeNumbered at)
 
-pub kind-numbered-spec : {M : Type 1} → statement M
-kind-numbered-spec = tie.close (tie.spec returns returns-2 returns-3 returns-4 returns-5 returns-6)
+pub type-numbered-spec : {M : Type 1} → statement M
+type-numbered-spec = tie.close (tie.spec returns returns-2 returns-3 returns-4 returns-5 returns-6)
