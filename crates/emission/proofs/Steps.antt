@@ -14,10 +14,10 @@ use Rattle.semantics.proofs.Tests.{test, and-intro, and-left, and-right}
 use Rattle.stored.specs.declared.Node.{Node}
 use Rattle.stored.specs.declared.Header.{Header}
 use Rattle.stored.specs.Bytes.{word}
-use Rattle.stored.specs.Layout.{nodesEnd, following, leastOutput}
+use Rattle.stored.specs.Layout.{emittedKind, nodesStart, nodesEnd, following, leastOutput}
 use Rattle.stored.specs.Node.{emittedSorts, sortOf, sortBelow, aUse, bUse, fieldsRight, operandRight, operandsRight}
 use Rattle.stored.specs.Sheet.{headerOf}
-use Rattle.stored.specs.Written.{nodeIn, NodeFits, putNode, putHeader, emittedHeader}
+use Rattle.stored.specs.Written.{nodeIn, NodeFits, putNode, putHeader, headerBytes}
 use Rattle.stored.proofs.Written.{put-length, put-back, put-read, put-other, header-length, header-back, header-nodes, header-byte, header-read, header-rest}
 use Rattle.stored.proofs.Tree.{proposition-agree, formula-agree}
 use Rattle.emission.specs.Bound.{mostEmitted}
@@ -158,41 +158,41 @@ module _ (x : List ℕ) (n : Node) (may : Addable x n) where
   unfolding c
   inside = omega (arith, may .room, may .good .long)
 
-  held : 9 ≤ length (putNode x c n)
+  held : nodesStart ≤ length (putNode x c n)
   unfolding c
   held = rw put-length (omega (arith, may .good .long))
 
   head : headerOf (appended x n) ≡ record { signals = s; names = m; nodes = c + 1; clauses = 0 }
   unfolding appended c s m
-  head = header-read (putNode x c n) s m (c + 1) held
+  head = header-read (putNode x c n) emittedKind s m (c + 1) 0 held
 
   size-same : length (appended x n) ≡ length x
   unfolding appended c s m
-  size-same = header-length (putNode x c n) s m (c + 1) ∙ put-length x c n
+  size-same = header-length (putNode x c n) emittedKind s m (c + 1) 0 ∙ put-length x c n
 
   is-new : nodeIn (appended x n) c ≡ n
   unfolding appended c s m
-  is-new = header-nodes (putNode x c n) s m (c + 1) c ∙ put-read x c n (omega (arith, inside))
+  is-new = header-nodes (putNode x c n) emittedKind s m (c + 1) 0 c ∙ put-read x c n (omega (arith, inside))
 
   is-old : (i : ℕ) → (i ≡ c → ⊥) → nodeIn (appended x n) i ≡ nodeIn x i
   unfolding appended c s m
-  is-old i h = header-nodes (putNode x c n) s m (c + 1) i ∙ put-other x c n i h
+  is-old i h = header-nodes (putNode x c n) emittedKind s m (c + 1) 0 i ∙ put-other x c n i h
 
   back-same : (t : ℕ) → nodesEnd (c + 1) ≤ t → drop t (appended x n) ≡ drop t x
   unfolding appended c s m
-  back-same t h = header-back (putNode x c n) s m (c + 1) t (omega arith) ∙ put-back x c n t (omega arith)
+  back-same t h = header-back (putNode x c n) emittedKind s m (c + 1) 0 t (omega arith) ∙ put-back x c n t (omega arith)
 
   version-is : getD (appended x n) 2 0 ≡ 1
-  unfolding appended c s m emittedHeader
-  version-is = header-byte (putNode x c n) s m (c + 1) held 2 (omega arith)
+  unfolding appended c s m headerBytes
+  version-is = header-byte (putNode x c n) emittedKind s m (c + 1) 0 held 2 (omega arith)
 
   kind-is : getD (appended x n) 3 0 ≡ 2
-  unfolding appended c s m emittedHeader
-  kind-is = header-byte (putNode x c n) s m (c + 1) held 3 (omega arith)
+  unfolding appended c s m headerBytes
+  kind-is = header-byte (putNode x c n) emittedKind s m (c + 1) 0 held 3 (omega arith)
 
   rest-is : word (appended x n) 0 ≡ following (nodesEnd (c + 1))
   unfolding appended c s m
-  rest-is = header-rest (putNode x c n) s m (c + 1) held
+  rest-is = let rest = header-rest (putNode x c n) emittedKind s m (c + 1) 0 held in omega arith
 
   node-right : (i : ℕ) → i < c + 1 → fieldsRight emittedSorts s m (nodeIn (appended x n) i) ≡ true
   unfolding c s m
@@ -299,7 +299,7 @@ pub put-none : {x : List ℕ} {n : Node} → fits x n ≡ false → Put n x x 0
 put-none e = record { bytes = rw e; root = rw e }
 
 pub put-made : {x y z : List ℕ} {n : Node} {s m k : ℕ} → fits x n ≡ true → s ≡ getD x 4 0 → m ≡ getD x 5 0 → k ≡ count x
-    → y ≡ putNode x k n → z ≡ putHeader y s m (k + 1) → Put n x z k
+    → y ≡ putNode x k n → z ≡ putHeader y emittedKind s m (k + 1) 0 → Put n x z k
 unfolding appended headerOf
 put-made e es em ek ey ez = record { bytes = rw e (rw (ez, ey, es, em, ek)); root = rw e ek }
 

@@ -11,7 +11,7 @@ use Rattle.stored.specs.Bytes.{word}
 use Rattle.stored.specs.Node.{emittedSorts, sortOf, fieldsRight, operandsRight}
 use Rattle.stored.specs.Tree.{propositionAt, formulaAt}
 use Rattle.stored.specs.Sheet.{headerOf}
-use Rattle.stored.specs.Layout.{nodesEnd, following, mostSignals, mostNames, leastOutput}
+use Rattle.stored.specs.Layout.{emittedKind, nodesEnd, following, mostSignals, mostNames, leastOutput}
 use Rattle.stored.specs.Written.{nodeIn}
 use Rattle.emission.specs.Bound.{mostEmitted}
 
@@ -30,7 +30,7 @@ pub record Good (y : List ℕ) : Type 0 where
   pub long : leastOutput ≤ length y
   pub rest : word y 0 ≡ following (nodesEnd (count y))
   pub version : getD y 2 0 ≡ 1
-  pub kind : getD y 3 0 ≡ 2
+  pub kind : getD y 3 0 ≡ emittedKind
   pub some-signals : 1 ≤ headerOf y .signals
   pub few-signals : headerOf y .signals ≤ mostSignals
   pub few-names : headerOf y .names ≤ mostNames

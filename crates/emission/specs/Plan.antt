@@ -9,7 +9,7 @@ use lib.ListN.{length}
 use Rattle.semantics.specs.Proposition.{Proposition, signal, name, negated}
 use Rattle.semantics.specs.Formula.{Formula, point, stretch, unit, chop, conjunction, disjunction, slen, scount, at, negation, forSome, atMost, equal, atLeast, above}
 use Rattle.stored.specs.declared.Node.{Node}
-use Rattle.stored.specs.Layout.{leastOutput}
+use Rattle.stored.specs.Layout.{emittedKind, leastOutput}
 use Rattle.stored.specs.Sheet.{headerOf}
 use Rattle.stored.specs.Written.{putNode, putHeader}
 use Rattle.emission.specs.Bound.{mostEmitted}
@@ -82,7 +82,7 @@ fits x n =
 
 -- the bytes with node n after the last
 unfoldable pub appended : List ℕ → Node → List ℕ
-appended x n = putHeader (putNode x (count x) n) (headerOf x .signals) (headerOf x .names) (count x + 1)
+appended x n = putHeader (putNode x (count x) n) emittedKind (headerOf x .signals) (headerOf x .names) (count x + 1) 0
 
 -- x became y by node n, which is node r; where it does not fit nothing is written
 pub record Put (n : Node) (x y : List ℕ) (r : ℕ) : Type 0 where

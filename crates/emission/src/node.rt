@@ -80,7 +80,7 @@ pub fn put(out: &mut [u8], op: usize, q: usize, a: usize, b: usize) -> usize
     let n = writer::count(out);
     let next = n + 1;
     writer::put_node(out, n, x);
-    writer::put_header(out, s, m, next);
+    writer::put_header(out, layout::EMITTED, s, m, next, 0);
     n
 }
 

@@ -13,8 +13,8 @@ use Rattle.stored.specs.declared.Node.{Node}
 use Rattle.stored.specs.Bytes.{word}
 use Rattle.stored.specs.Node.{nodeAt}
 use Rattle.stored.specs.Sheet.{headerOf, nodePart, nodesOf}
-use Rattle.stored.specs.Layout.{nodesStart, nodesEnd, following}
-use Rattle.stored.specs.Written.{nodeBytes, putNode, emittedHeader, putHeader, nodeIn}
+use Rattle.stored.specs.Layout.{nodesStart, nodesEnd, clausesEnd, following}
+use Rattle.stored.specs.Written.{nodeBytes, putNode, headerBytes, putHeader, nodeIn}
 use Rattle.semantics.proofs.Tests.{test}
 
 -- bytes put at p: the others stay
@@ -46,15 +46,15 @@ getD-put l p (v ∷ vs) (suc k) fits h =
 pub halves : (v : ℕ) → v / 256 * 256 + v % 256 ≡ v
 halves v = div-add-mod' v 256
 
-word-of : (l : List ℕ) (k v : ℕ) → getD l k 0 ≡ v / 256 → getD l (k + 1) 0 ≡ v % 256 → word l k ≡ v
+pub word-of : (l : List ℕ) (k v : ℕ) → getD l k 0 ≡ v / 256 → getD l (k + 1) 0 ≡ v % 256 → word l k ≡ v
 unfolding word
 word-of l k v e f = rw (e, f) (halves v)
 
-node-is : (l : List ℕ) (i : ℕ) (x : Node) → getD l (6 * i) 0 ≡ x .op → getD l (6 * i + 1) 0 ≡ x .q → word l (6 * i + 2) ≡ x .a → word l (6 * i + 4) ≡ x .b → nodeAt l i ≡ x
+pub node-is : (l : List ℕ) (i : ℕ) (x : Node) → getD l (6 * i) 0 ≡ x .op → getD l (6 * i + 1) 0 ≡ x .q → word l (6 * i + 2) ≡ x .a → word l (6 * i + 4) ≡ x .b → nodeAt l i ≡ x
 unfolding nodeAt
 node-is l i x e f g h = rw (e, f, g, h)
 
-node-same : (l l′ : List ℕ) (j : ℕ) → ((r : ℕ) → r < 6 → getD l (6 * j + r) 0 ≡ getD l′ (6 * j + r) 0) → nodeAt l j ≡ nodeAt l′ j
+pub node-same : (l l′ : List ℕ) (j : ℕ) → ((r : ℕ) → r < 6 → getD l (6 * j + r) 0 ≡ getD l′ (6 * j + r) 0) → nodeAt l j ≡ nodeAt l′ j
 unfolding nodeAt word
 node-same l l′ j h =
     let first : 6 * j ≡ 6 * j + 0 = omega arith in
@@ -117,41 +117,41 @@ module _ (s : List ℕ) (i : ℕ) (x : Node) where
   unfolding nodeIn
   put-other j other = node-same (drop nodesStart (putNode s i x)) (drop nodesStart s) j (byte-other j other)
 
--- a kind 2 header
-module _ (out : List ℕ) (s m n : ℕ) where
-  pub header-length : length (putHeader out s m n) ≡ length out
+-- a header
+module _ (out : List ℕ) (kind s m n c : ℕ) where
+  pub header-length : length (putHeader out kind s m n c) ≡ length out
   unfolding putHeader
-  header-length = length-sets out 0 (emittedHeader s m n)
+  header-length = length-sets out 0 (headerBytes kind s m n c)
 
-  pub header-back : (k : ℕ) → 9 ≤ k → drop k (putHeader out s m n) ≡ drop k out
-  unfolding putHeader emittedHeader
-  header-back k h = drop-after out 0 (emittedHeader s m n) k (omega arith)
+  pub header-back : (k : ℕ) → nodesStart ≤ k → drop k (putHeader out kind s m n c) ≡ drop k out
+  unfolding putHeader headerBytes
+  header-back k h = drop-after out 0 (headerBytes kind s m n c) k (omega arith)
 
-  pub header-nodes : (j : ℕ) → nodeIn (putHeader out s m n) j ≡ nodeIn out j
+  pub header-nodes : (j : ℕ) → nodeIn (putHeader out kind s m n c) j ≡ nodeIn out j
   unfolding nodeIn
-  header-nodes j = ap (λ (l : List ℕ). nodeAt l j) (header-back 9 (omega arith))
+  header-nodes j = ap (λ (l : List ℕ). nodeAt l j) (header-back nodesStart (omega arith))
 
-  pub header-byte : 9 ≤ length out → (k : ℕ) → k < 9 → getD (putHeader out s m n) k 0 ≡ getD (emittedHeader s m n) k 0
-  unfolding putHeader emittedHeader
+  pub header-byte : nodesStart ≤ length out → (k : ℕ) → k < nodesStart → getD (putHeader out kind s m n c) k 0 ≡ getD (headerBytes kind s m n c) k 0
+  unfolding putHeader headerBytes
   header-byte fits k h =
       let place : k ≡ 0 + k = omega arith in
-      ap (λ (j : ℕ). getD (putHeader out s m n) j 0) place ∙ getD-put out 0 (emittedHeader s m n) k (omega arith) h
+      ap (λ (j : ℕ). getD (putHeader out kind s m n c) j 0) place ∙ getD-put out 0 (headerBytes kind s m n c) k (omega arith) h
 
   -- it is read back
-  pub header-read : 9 ≤ length out → headerOf (putHeader out s m n) ≡ record { signals = s; names = m; nodes = n; clauses = 0 }
-  unfolding headerOf emittedHeader
+  pub header-read : nodesStart ≤ length out → headerOf (putHeader out kind s m n c) ≡ record { signals = s; names = m; nodes = n; clauses = c }
+  unfolding headerOf headerBytes
   header-read fits =
       rw (
         header-byte fits 4 (omega arith),
         header-byte fits 5 (omega arith),
-        word-of (putHeader out s m n) 6 n (header-byte fits 6 (omega arith)) (header-byte fits 7 (omega arith)),
+        word-of (putHeader out kind s m n c) 6 n (header-byte fits 6 (omega arith)) (header-byte fits 7 (omega arith)),
         header-byte fits 8 (omega arith),
       )
 
-  pub header-rest : 9 ≤ length out → word (putHeader out s m n) 0 ≡ following (nodesEnd n)
-  unfolding emittedHeader
+  pub header-rest : nodesStart ≤ length out → word (putHeader out kind s m n c) 0 ≡ following (clausesEnd n c)
+  unfolding headerBytes
   header-rest fits =
-      word-of (putHeader out s m n) 0 (following (nodesEnd n)) (header-byte fits 0 (omega arith)) (header-byte fits 1 (omega arith))
+      word-of (putHeader out kind s m n c) 0 (following (clausesEnd n c)) (header-byte fits 0 (omega arith)) (header-byte fits 1 (omega arith))
 
 -- the nodes that the header counts
 pub nodes-in : (s : List ℕ) (i : ℕ) → i < headerOf s .nodes → nodesOf s i ≡ nodeIn s i

@@ -10,13 +10,13 @@ use Rattle.semantics.specs.Placement.{noNames}
 use Rattle.semantics.specs.Reach.{within}
 use Rattle.stored.specs.declared.Header.{Header}
 use Rattle.stored.specs.Bytes.{everyBelow}
-use Rattle.stored.specs.Layout.{mostSignals, mostNames}
+use Rattle.stored.specs.Layout.{emittedKind, mostSignals, mostNames}
 use Rattle.stored.specs.Node.{emittedSorts, nodeRight, operandsRight, isFormulaNode}
 use Rattle.stored.specs.Tree.{formulaAt}
 use Rattle.stored.specs.Sheet.{headerOf, nodesOf, framed, versioned, sized}
 
 unfoldable pub ofKindTwo : List ℕ → Bool
-ofKindTwo s = eqb (getD s 3 0) 2
+ofKindTwo s = eqb (getD s 3 0) emittedKind
 
 -- kind 2 has one node or more and no clause
 unfoldable pub emittedCounted : Header → Bool

@@ -11,6 +11,13 @@ nodeSize = 6
 abbrev pub clauseSize : ℕ
 clauseSize = 11
 
+-- byte 3: a requirement, or an emitted formula
+abbrev pub requirementKind : ℕ
+requirementKind = 1
+
+abbrev pub emittedKind : ℕ
+emittedKind = 2
+
 -- where the area of n nodes ends: there the clauses start, and a sheet of kind 2 ends
 abbrev pub nodesEnd : ℕ → ℕ
 nodesEnd n = nodesStart + nodeSize * n

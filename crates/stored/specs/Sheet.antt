@@ -13,7 +13,7 @@ use Rattle.stored.specs.declared.Header.{Header}
 use Rattle.stored.specs.declared.SheetAnswer.{SheetAnswer}
 use Rattle.stored.specs.declared.SheetAnswer.the-variants.{Accepted, Refused}
 use Rattle.stored.specs.Bytes.{word, framedFrom, part, everyBelow, inOrder, lowest}
-use Rattle.stored.specs.Layout.{nodesStart, nodesEnd, clausesEnd, mostSignals, mostNames, mostNodes, mostClauses}
+use Rattle.stored.specs.Layout.{requirementKind, nodesStart, nodesEnd, clausesEnd, mostSignals, mostNames, mostNodes, mostClauses}
 use Rattle.stored.specs.Node.{nodeAt, requirementSorts, nodeRight, operandsRight}
 use Rattle.stored.specs.Tree.{pick}
 use Rattle.stored.specs.Clause.{storedAt, clauseRightAt, clauseNamedAt, clauseOf}
@@ -43,7 +43,7 @@ versioned s = eqb (getD s 2 0) 1
 
 -- 3. Its kind is 1.
 unfoldable pub ofKindOne : List ℕ → Bool
-ofKindOne s = eqb (getD s 3 0) 1
+ofKindOne s = eqb (getD s 3 0) requirementKind
 
 -- 4. Its counts are in range for kind 1.
 unfoldable pub counted : Header → Bool

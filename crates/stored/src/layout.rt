@@ -10,6 +10,11 @@ pub const NODE_SIZE: usize = 6;
 
 pub const CLAUSE_SIZE: usize = 11;
 
+// Byte 3: a requirement, or an emitted formula.
+pub const REQUIREMENT: usize = 1;
+
+pub const EMITTED: usize = 2;
+
 // Where the area of n nodes ends: there the clauses start, and a sheet of kind 2 ends.
 pub fn nodes_end(n: usize) -> usize
     requires { ⌜ n < 65536 ⌝ }

@@ -51,7 +51,7 @@ pub fn read_sheet(sheet: &[u8]) -> SheetAnswer
     if bytes::byte(sheet, 2) != 1 {
         return SheetAnswer::Refused(2);
     }
-    if bytes::byte(sheet, 3) != 1 {
+    if bytes::byte(sheet, 3) != layout::REQUIREMENT {
         return SheetAnswer::Refused(3);
     }
     let h = header(sheet);

@@ -1,32 +1,33 @@
-// Writes one node, and the header of a kind 2 sheet, into lent bytes.
+// Writes one node, and the header of a sheet, into lent bytes.
 use crate::Node;
 use crate::bytes;
 use crate::layout;
 ghost use mathlib.Core.Path.{_≡_};
 ghost use Prim.Native.Nat.{_+_, _/_, _%_, _≤_, _<_};
 ghost use lib.ListN.{length};
-ghost use Rattle.stored.specs.Layout.{nodesStart, nodesEnd, following};
+ghost use lib.Seq.{sets};
+ghost use Rattle.stored.specs.Layout.{nodesStart, nodeSize, nodesEnd, clausesEnd, following};
 ghost use Rattle.stored.specs.Sheet.{headerOf};
-ghost use Rattle.stored.specs.Written.{NodeFits, putNode, putHeader};
+ghost use Rattle.stored.specs.Written.{NodeFits, nodeBytes, putNode, putHeader};
 
-fn high(v: usize) -> u8
+pub fn high(v: usize) -> u8
     requires { ⌜ v < 65536 ⌝ }
     ensures { λ r. ⌜ r ≡ v / 256 ⌝ }
 {
     (v / 256) as u8
 }
 
-fn low(v: usize) -> u8
+pub fn low(v: usize) -> u8
     ensures { λ r. ⌜ r ≡ v % 256 ⌝ }
 {
     (v % 256) as u8
 }
 
-pub fn put_node(out: &mut [u8], i: usize, x: Node)
-    requires { ⌜ (i < 65536) × (nodesEnd (i + 1) ≤ length (now out)) × NodeFits x ⌝ }
-    ensures { λ _. ⌜ now (out .exit) ≡ putNode (now (out .entry)) i x ⌝ }
+// The bytes of a node from `at` on.
+pub fn write_node(out: &mut [u8], at: usize, x: Node)
+    requires { ⌜ (at + nodeSize ≤ length (now out)) × NodeFits x ⌝ }
+    ensures { λ _. ⌜ now (out .exit) ≡ sets (now (out .entry)) at (nodeBytes x) ⌝ }
 {
-    let at = layout::nodes_end(i);
     let a = x.a;
     let b = x.b;
     out[at] = x.op as u8;
@@ -37,21 +38,29 @@ pub fn put_node(out: &mut [u8], i: usize, x: Node)
     out[at + 5] = low(b);
 }
 
-// The header of a kind 2 sheet with s signals, m names and n nodes.
-pub fn put_header(out: &mut [u8], s: usize, m: usize, n: usize)
-    requires { ⌜ (nodesStart ≤ length (now out)) × (s < 256) × (m < 256) × (following (nodesEnd n) < 65536) ⌝ }
-    ensures { λ _. ⌜ now (out .exit) ≡ putHeader (now (out .entry)) s m n ⌝ }
+// Node i of a sheet.
+pub fn put_node(out: &mut [u8], i: usize, x: Node)
+    requires { ⌜ (i < 65536) × (nodesEnd (i + 1) ≤ length (now out)) × NodeFits x ⌝ }
+    ensures { λ _. ⌜ now (out .exit) ≡ putNode (now (out .entry)) i x ⌝ }
 {
-    let rest = layout::nodes_end(n) - 2;
+    write_node(out, layout::nodes_end(i), x);
+}
+
+// The header of a sheet of a kind with s signals, m names, n nodes and c clauses.
+pub fn put_header(out: &mut [u8], kind: usize, s: usize, m: usize, n: usize, c: usize)
+    requires { ⌜ (nodesStart ≤ length (now out)) × (kind < 256) × (s < 256) × (m < 256) × (c < 256) × (following (clausesEnd n c) < 65536) ⌝ }
+    ensures { λ _. ⌜ now (out .exit) ≡ putHeader (now (out .entry)) kind s m n c ⌝ }
+{
+    let rest = layout::clauses_end(n, c) - 2;
     out[0] = high(rest);
     out[1] = low(rest);
     out[2] = 1;
-    out[3] = 2;
+    out[3] = kind as u8;
     out[4] = s as u8;
     out[5] = m as u8;
     out[6] = high(n);
     out[7] = low(n);
-    out[8] = 0;
+    out[8] = c as u8;
 }
 
 // How many nodes the header counts.

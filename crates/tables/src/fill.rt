@@ -14,6 +14,7 @@ use crate::line::is_pair;
 use crate::line::pair_row;
 use crate::line::plain_row;
 use rows::mask::only;
+use stored::layout::MOST_NODES;
 use stored::masks::name_mask;
 use stored::nodes::node_at;
 use stored::trace::FIRST_NAME;
@@ -193,7 +194,7 @@ pub fn lay_first(
     ensures { λ r. ⌜ now (columns .exit) ≡ withNames (now (columns .entry)) cycles ⌝ }
     ensures { λ r. ⌜ Tables (nodeAt (now (nodes .entry))) count n (now (columns .exit)) (now (words .exit)) ⌝ }
 {
-    let none = [0usize; 64];
+    let none = [0usize; MOST_NODES];
     let _ = move_names(columns, cycles);
     fill(nodes, count, n, &none, 8, columns, words);
 }

@@ -21,8 +21,8 @@ use Rattle.stored.specs.Node.{emittedSorts, sortOf, sortBelow, nodeRight, isFor
 use Rattle.stored.specs.Tree.{pick, formulaAt}
 use Rattle.stored.specs.Sheet.{headerOf, nodePart, clausePart, nodesOf, storedOf, framed, versioned, sized, sheetRefusal, sheetAnswer, sheetNumber, clauseIn, clausesOf, requirementOf}
 use Rattle.stored.specs.Emitted.{ofKindTwo, emittedCounted, rootOf, emittedFormula, emittedNodes, emittedOperands, isEmitted, emittedTrue}
-use Rattle.stored.specs.Layout.{nodesEnd, clausesEnd, following, leastOutput}
-use Rattle.stored.specs.Written.{nodeIn, putHeader, emittedHeader}
+use Rattle.stored.specs.Layout.{emittedKind, nodesEnd, clausesEnd, following, leastOutput}
+use Rattle.stored.specs.Written.{nodeIn, putHeader, headerBytes}
 use Rattle.stored.proofs.Rules.{every-all}
 use Rattle.stored.proofs.Tree.{formula-agree}
 use Rattle.stored.proofs.Written.{header-length, header-back, header-byte, header-read, header-rest, nodes-in, taken-byte, taken-header, taken-node}
@@ -41,9 +41,9 @@ use Rattle.clauses.proofs.Joining.{joined-bound}
 use Rattle.semantics.proofs.Closed.{translation-closed}
 
 -- ---- an empty kind 2 sheet
-module _ (x y : List ℕ) (s m : ℕ) (big : leastOutput ≤ length x) (e : y ≡ putHeader x s m 0) where
+module _ (x y : List ℕ) (s m : ℕ) (big : leastOutput ≤ length x) (e : y ≡ putHeader x emittedKind s m 0 0) where
   head : headerOf y ≡ record { signals = s; names = m; nodes = 0; clauses = 0 }
-  head = ap headerOf e ∙ header-read x s m 0 (omega arith)
+  head = ap headerOf e ∙ header-read x emittedKind s m 0 0 (omega arith)
 
   pub empty-count : count y ≡ 0
   empty-count = ap (λ (h : Header). h .nodes) head
@@ -55,10 +55,10 @@ module _ (x y : List ℕ) (s m : ℕ) (big : leastOutput ≤ length x) (e : y �
   empty-names = ap (λ (h : Header). h .names) head
 
   pub empty-length : length y ≡ length x
-  empty-length = ap length e ∙ header-length x s m 0
+  empty-length = ap length e ∙ header-length x emittedKind s m 0 0
 
   pub empty-good : 1 ≤ s → s ≤ 16 → m ≤ 3 → Good y
-  unfolding emittedHeader
+  unfolding headerBytes
   empty-good some few three =
       let none = empty-count in
       let signals = empty-signals in
@@ -66,9 +66,9 @@ module _ (x y : List ℕ) (s m : ℕ) (big : leastOutput ≤ length x) (e : y �
       let size = empty-length in
       record {
         long = omega arith;
-        rest = ap (λ (l : List ℕ). word l 0) e ∙ header-rest x s m 0 (omega arith) ∙ ap (λ (n : ℕ). following (nodesEnd n)) (sym none);
-        version = ap (λ (l : List ℕ). getD l 2 0) e ∙ header-byte x s m 0 (omega arith) 2 (omega arith);
-        kind = ap (λ (l : List ℕ). getD l 3 0) e ∙ header-byte x s m 0 (omega arith) 3 (omega arith);
+        rest = ap (λ (l : List ℕ). word l 0) e ∙ header-rest x emittedKind s m 0 0 (omega arith) ∙ ap (λ (n : ℕ). following (nodesEnd n)) (sym none);
+        version = ap (λ (l : List ℕ). getD l 2 0) e ∙ header-byte x emittedKind s m 0 0 (omega arith) 2 (omega arith);
+        kind = ap (λ (l : List ℕ). getD l 3 0) e ∙ header-byte x emittedKind s m 0 0 (omega arith) 3 (omega arith);
         some-signals = omega arith;
         few-signals = omega arith;
         few-names = omega arith;
@@ -190,7 +190,7 @@ module _ (y : List ℕ) (r : ℕ) (f : Formula) (good : Good y) (has : Has y r f
 
 -- ---- the whole run
 module _ (s x y₀ y₁ y₂ : List ℕ) (r : ℕ) (o : Opened s) (big : leastOutput ≤ length x)
-    (e₀ : y₀ ≡ putHeader x (headerOf s .signals) (headerOf s .names) 0)
+    (e₀ : y₀ ≡ putHeader x emittedKind (headerOf s .signals) (headerOf s .names) 0 0)
     (s₁ : Step y₀ y₁ (3 + 2 * headerOf s .names))
     (e₂ : Emits y₁ y₂ r (requirementCost (nodePart s) (headerOf s .nodes) (headerOf s .clauses) (headerOf y₁ .names)) (translation (clausesAt (nodePart s) (clausePart s) (headerOf s .clauses))))
     (last : count y₂ ≡ r + 1) where
@@ -241,7 +241,7 @@ module _ (s x y₀ y₁ y₂ : List ℕ) (r : ℕ) (o : Opened s) (big : leastOu
   later-kept =
       steps s₁ (e₂ .step) .back (nodesEnd (r + 1)) (omega arith)
       ∙ ap (drop (nodesEnd (r + 1))) e₀
-      ∙ header-back x (headerOf s .signals) (headerOf s .names) 0 (nodesEnd (r + 1)) (omega arith)
+      ∙ header-back x emittedKind (headerOf s .signals) (headerOf s .names) 0 0 (nodesEnd (r + 1)) (omega arith)
 
   pub size-kept : length y₂ ≡ length x
   size-kept = steps s₁ (e₂ .step) .size ∙ empty-length x y₀ (headerOf s .signals) (headerOf s .names) big e₀
@@ -305,7 +305,7 @@ module _ (s x : List ℕ) (answer : SheetAnswer) (h : Header) (told : answer ≡
 pub record Run (s x : List ℕ) (h : Header) (y : List ℕ) (r : ℕ) : Type 0 where
   pub y₀ : List ℕ
   pub y₁ : List ℕ
-  pub headed : y₀ ≡ putHeader x (h .signals) (h .names) 0
+  pub headed : y₀ ≡ putHeader x emittedKind (h .signals) (h .names) 0 0
   pub shared : Step y₀ y₁ (3 + 2 * h .names)
   pub required :
       Emits y₁ y r (requirementCost (nodePart s) (h .nodes) (h .clauses) (headerOf y₁ .names)) (translation (clausesAt (nodePart s) (clausePart s) (h .clauses)))

@@ -27,7 +27,7 @@ pub fn translate(sheet: &[u8], out: &mut [u8]) -> TranslateAnswer
     let nodes = sheet::node_part(sheet, h);
     let clauses = sheet::clause_part(sheet, h);
     let m = h.names;
-    writer::put_header(out, h.signals, m, 0);
+    writer::put_header(out, layout::EMITTED, h.signals, m, 0, 0);
     shared::put_shared(out, m);
     let root = requirement::put_requirement(out, nodes, h.nodes, clauses, h.clauses);
     TranslateAnswer::Written(layout::nodes_end(root + 1))

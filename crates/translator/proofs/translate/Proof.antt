@@ -49,7 +49,7 @@ clause-part-requires : tie.Need-clause-part-requires
 clause-part-requires c κs = accepted (c .before)
 
 put-header-requires : tie.Need-put-header-requires
-put-header-requires c κs = let k = known (c .before .before .before) in (omega (arith, c .before .before .before .if1 .left), omega (arith, k .few-signals), omega (arith, k .few-names), omega arith)
+put-header-requires c κs = let k = known (c .before .before .before) in (omega (arith, c .before .before .before .if1 .left), omega arith, omega (arith, k .few-signals), omega (arith, k .few-names), omega arith, omega arith)
 
 put-shared-requires : tie.Need-put-shared-requires
 put-shared-requires c κs =

@@ -44,7 +44,7 @@ put-header-requires c κs =
     let d = c .before .before .before .before .before in
     let f = known (d .before .before .before .before .before .before) in
     let e = d .before .before in
-    (omega (arith, f .long), e .before .before .byte .ensures .1, e .byte2 .ensures .1, omega (arith, f .room, d .count .ensures .0))
+    (omega (arith, f .long), omega arith, e .before .before .byte .ensures .1, e .byte2 .ensures .1, omega arith, omega (arith, f .room, d .count .ensures .0))
 
 same-length-2 : tie.Need-same-length-2
 same-length-2 c = search needs

@@ -1,0 +1,12 @@
+-- `lexer::classes::is_blank` meets its contract.
+use mathlib.Core.Path.{refl}
+use Rattle.grammar.specs.Token.{isBlank}
+use Rattle.lexer.proofs.classes.is_blank.Statement.{statement}
+use Rattle.lexer.proofs.classes.is_blank.Tie as tie
+
+returns : tie.Need-returns
+unfolding isBlank
+returns c = refl
+
+pub is-blank-spec : {M : Type 1} → statement M
+is-blank-spec = tie.close (tie.spec returns)

@@ -1,0 +1,44 @@
+-- `lexer::spellings::spelling_at` meets its contract.
+use native.Mathlib.Omega.{arith}
+use Rattle.lexer.proofs.Read.{found-rest, width-fits, spelling-read}
+use Rattle.lexer.proofs.spellings.spelling_at.Statement.{statement}
+use Rattle.lexer.proofs.spellings.spelling_at.Tie as tie
+
+sub-spelling : tie.Need-sub-spelling
+sub-spelling c = omega arith
+
+part-spelling-start : tie.Need-part-spelling-start
+part-spelling-start c = omega arith
+
+part-spelling-end : tie.Need-part-spelling-end
+part-spelling-end c = omega arith
+
+spelling-requires : tie.Need-spelling-requires
+spelling-requires c κs = omega arith
+
+token-of-requires : tie.Need-token-of-requires
+token-of-requires c κs = omega arith
+
+add-t5 : tie.Need-add-t5
+add-t5 c =
+    let start = c .before .before .before .before .before in
+    let found = found-rest (start .args .text .now) (start .args .at) _ (c .before .before .spelling .ensures) in
+    omega (arith, width-fits _ _ _ (start .pre .0) found)
+
+returns : tie.Need-returns
+returns c =
+    let start = c .before .before .before .before .before in
+    let found = found-rest (start .args .text .now) (start .args .at) _ (c .before .before .spelling .ensures) in
+    spelling-read _ _ _ (start .pre .0) found _ (start .pre .1) (start .pre .2) (c .before .token-of .ensures)
+
+pub spelling-at-spec : {M : Type 1} → statement M
+spelling-at-spec =
+    tie.close
+    (tie.spec
+    sub-spelling
+    part-spelling-start
+    part-spelling-end
+    spelling-requires
+    token-of-requires
+    add-t5
+    returns)

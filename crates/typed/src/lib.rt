@@ -1,0 +1,2 @@
+// Typed sheets: what a tree says, and the stored sheet that it is.
+pub mod draft;
