@@ -1,0 +1,14 @@
+-- `formulas::leaf::number` meets its contract.
+use borrow.Author.Needs.{needs}
+use Rattle.formulas.proofs.Leaves.{number-leafs}
+use Rattle.formulas.proofs.leaf.number.Statement.{statement}
+use Rattle.formulas.proofs.leaf.number.Tie as tie
+
+token-requires : tie.Need-token-requires
+token-requires c κs = search needs
+
+returns : tie.Need-returns
+returns c = number-leafs (c .before .token .ensures)
+
+pub number-spec : {M : Type 1} → statement M
+number-spec = tie.close (tie.spec token-requires returns)

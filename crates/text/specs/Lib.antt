@@ -1,0 +1,3 @@
+-- What the reader of typed sheets promises.
+pub mod Parts
+pub mod Text
