@@ -1,7 +1,8 @@
-/* Calls the library from C: the scope paper's example, and a refusal of each operation. Prints a line for each check and
+/* Calls the library from C: the scope paper's example, typed and stored, and a refusal of each operation. Prints a line for each check and
    returns 1 where one fails. */
 #include "fasunqir.h"
 #include <stdio.h>
+#include <string.h>
 
 /* One signal and one clause: anti(<signal 0>), a commitment. */
 static const uint8_t sheet[] = {
@@ -10,6 +11,10 @@ static const uint8_t sheet[] = {
     0x10, 0x00, 0x00, 0x00, 0x00, 0x00,                               /* node 1: <node 0> */
     0x03, 0x01, 0x00, 0x01, 0x00, 0x00, 0x00, 0x00, 0x00, 0x00, 0x00, /* clause 0: anti, a commitment, root 1 */
 };
+
+/* The same sheet as it is typed, and as it is not: without the colon. */
+static const char typed[] = "1 0\nrequire anti(<s0>:)\n";
+static const char mistyped[] = "1 0\nrequire anti(<s0>)\n";
 
 /* Three cycles, the signal high in the last. */
 static const uint8_t trace[] = {0x00, 0x08, 0x01, 0x01, 0x00, 0x00, 0x00, 0x00, 0x00, 0x01};
@@ -116,9 +121,28 @@ static void translations(void) {
     expect(bytes_kept(0), "translate: refused, the bytes are as they were");
 }
 
+static uint64_t read_text(const char *text, size_t out_len) {
+    return fasunqir_read_text((const uint8_t *)text, strlen(text), out, out_len);
+}
+
+static void texts(void) {
+    lend();
+    uint64_t written = read_text(typed, FASUNQIR_OUTPUT + 1);
+    expect(written == answer(FASUNQIR_WRITTEN, sizeof sheet), "read_text: a sheet of 32 bytes is written");
+    expect(memcmp(out, sheet, sizeof sheet) == 0, "read_text: it is the stored sheet");
+    expect(bytes_kept(sizeof sheet), "read_text: later bytes keep their values");
+
+    lend();
+    expect(read_text(mistyped, FASUNQIR_OUTPUT) == answer(FASUNQIR_REFUSED, 19), "read_text: no colon is refused by 19");
+    expect(read_text("", FASUNQIR_OUTPUT) == answer(FASUNQIR_REFUSED, 19), "read_text: no text is refused by 19");
+    expect(read_text(typed, FASUNQIR_OUTPUT - 1) == answer(FASUNQIR_REFUSED, 14), "read_text: 8,191 bytes are refused by 14");
+    expect(bytes_kept(0), "read_text: refused, the bytes are as they were");
+}
+
 int main(void) {
     checks();
     tables();
     translations();
+    texts();
     return failed;
 }

@@ -1,10 +1,10 @@
-/* The proved check, table and translator of sheets, as libexports.a has them.
+/* The proved check, table and translator of sheets and the reader of typed sheets, as libexports.a has them.
 
    Sheets and traces are bytes in the stored layout. Every pointer is of as many elements as the length after it says, and
    none is null: for no bytes pass a pointer to anything and 0, not (NULL, 0). What is lent to be written overlaps nothing
    else that is passed. No pointer is kept.
 
-   An answer is a tag and 256 times a value. Tag 0: refused, and the value is the number of the refusal, 1 to 17. Whatever
+   An answer is a tag and 256 times a value. Tag 0: refused, and the value is the number of the refusal, 1 to 20. Whatever
    was lent is then as it was. */
 #ifndef FASUNQIR_H
 #define FASUNQIR_H
@@ -27,7 +27,7 @@ enum {
 enum {
     FASUNQIR_WORDS = 4096, /* the words that check and table borrow, at least */
     FASUNQIR_ROWS = 64,    /* the rows of a table; the lent ones may be more */
-    FASUNQIR_OUTPUT = 8192 /* the bytes that the translator is lent, at least */
+    FASUNQIR_OUTPUT = 8192 /* the bytes that the translator and the reader of typed sheets are lent, at least */
 };
 
 /* The verdict of a sheet on a trace: EXCUSED, BROKEN or HOLDS. The lent words are all zero afterwards. */
@@ -45,6 +45,11 @@ uint64_t fasunqir_table(const uint8_t *sheet, size_t sheet_len, const uint8_t *t
 /* Writes the formula of a sheet, a sheet of kind 2, into the lent bytes: WRITTEN. Bytes from its length on keep their
    values. */
 uint64_t fasunqir_translate(const uint8_t *sheet, size_t sheet_len, uint8_t *out, size_t out_len);
+
+/* Reads a typed sheet and writes it as a stored sheet into the lent bytes: WRITTEN. Bytes from its length on keep their
+   values. A text is refused by 18, 19 or 20, in this order, then by the lowest of 1 to 9 that applies to the sheet that was
+   read, then by 14. */
+uint64_t fasunqir_read_text(const uint8_t *text, size_t text_len, uint8_t *out, size_t out_len);
 
 #ifdef __cplusplus
 }

@@ -1,6 +1,6 @@
-//! Check, table and translate measured in one run, beside the brute force and a plain bit-parallel
-//! checker without proofs. Prints Markdown tables and writes them, with a plot, to `target/bench` or
-//! to the directory in FASUNQIR_BENCH_DIR.
+//! Check, table, translate and the reader of typed sheets measured in one run, beside the brute force
+//! and a plain bit-parallel checker and reader without proofs. Prints Markdown tables and writes
+//! them, with a plot, to `target/bench` or to the directory in FASUNQIR_BENCH_DIR.
 
 #[path = "../tests/build/mod.rs"]
 mod build;
@@ -337,6 +337,51 @@ fn translations(text: &mut String) {
     }
 }
 
+/// The largest sheet that is accepted, 64 nodes and 8 clauses, in other spellings: eight times a
+/// clause of eight nodes.
+fn typed() -> [(&'static str, Vec<u8>); 4] {
+    let (open, close) = ("(".repeat(30), ")".repeat(30));
+    let deep = format!("requireimplies({open}<s0&!s1>^slen>=3{close}:,{open}at(u0){close}:u0)\n");
+    let loose = "  require\t implies (  ( ( < ( s0 )  &  ! ( (s1) ) > )  ^  ( slen  >=  0003 ) )  :  ,  ( ( at ( u0 ) ) )  :  u0  ) \n";
+    [
+        ("no blanks", "requireimplies(<s0&!s1>^slen>=3:,at(u0):u0)\n"),
+        ("as people type", "require implies(<s0 & !s1> ^ slen >= 3:, at(u0): u0)\n"),
+        ("many brackets and blanks", loose),
+        ("32 brackets deep", &deep),
+    ]
+    .map(|(what, clause)| (what, format!("2 1\n{}", clause.repeat(8)).into()))
+}
+
+fn texts(text: &mut String) {
+    writeln!(text, "\n| read text, 64 nodes and 8 clauses | bytes | library µs | plain µs | library, bytes a µs | plain, bytes a µs | library : plain |").unwrap();
+    writeln!(text, "|---|---:|---:|---:|---:|---:|---:|").unwrap();
+    let sheet = fasunqir::read_text(&typed()[0].1).unwrap();
+    assert_eq!(sheet[6..9], [0, 64, 8]);
+    for (what, typed) in typed() {
+        let mut outs = [vec![0; OUTPUT], vec![0; OUTPUT]];
+        let [out, plain_out] = &mut outs;
+        let [library, plain] = microseconds([
+            &mut || {
+                black_box(fasunqir::read_text_into(&typed, out)).unwrap();
+            },
+            &mut || {
+                black_box(plain::text::read_text(&typed, plain_out)).unwrap();
+            },
+        ]);
+        let same = outs.iter().all(|out| out[..sheet.len()] == sheet);
+        assert!(same, "{what}: the readers differ");
+        let bytes = typed.len() as f64;
+        writeln!(
+            text,
+            "| {what} | {bytes} | {library:.2} | {plain:.2} | {:.0} | {:.0} | {:.2} |",
+            bytes / library,
+            bytes / plain,
+            library / plain
+        )
+        .unwrap();
+    }
+}
+
 fn bars(rows: &[Row]) -> Vec<plot::Group> {
     rows.iter()
         .map(|row| plot::Group {
@@ -358,6 +403,7 @@ fn main() {
     write_rows(&mut text, "check", &checks);
     write_rows(&mut text, "table", &tables);
     translations(&mut text);
+    texts(&mut text);
     print!("{text}");
     std::fs::write(directory.join("bench.md"), &text).unwrap();
     let names = ["library", "plain", "brute force"];

@@ -1,20 +1,16 @@
-//! Sheets are timing diagrams with limited liveness, traces are what was observed. [`check`] says
-//! which clause of a sheet a trace breaks and where, [`table`] on which intervals a formula of the
-//! sheet holds, and [`translate`] writes the sheet as a QDDC formula.
+//! Sheets are timing diagrams with limited liveness, traces are what was observed. [`read_text`]
+//! reads a sheet as it is typed, [`check`] says which clause of a sheet a trace breaks and where,
+//! [`table`] on which intervals a formula of the sheet holds, and [`translate`] writes the sheet as a
+//! QDDC formula.
 //!
-//! The three operations are proved in Rattle; this crate gives them Rust types and adds nothing to
+//! The four operations are proved in Rattle; this crate gives them Rust types and adds nothing to
 //! them. Sheets and traces are bytes in the stored layout.
 //!
 //! ```
-//! use fasunqir::{check, Place, Verdict};
+//! use fasunqir::{check, read_text, Place, Verdict};
 //!
-//! // One signal and one clause: anti(⟨signal 0⟩), a commitment.
-//! let sheet = [
-//!     0x00, 0x1E, 1, 1, 1, 0, 0, 2, 1, // header: one signal, no names, two nodes, one clause
-//!     3, 0, 0, 0, 0, 0, // node 0: signal 0
-//!     16, 0, 0, 0, 0, 0, // node 1: ⟨node 0⟩
-//!     3, 1, 0, 1, 0, 0, 0, 0, 0, 0, 0, // clause 0: anti, commitment, root 1
-//! ];
+//! // One signal, no names, and one commitment: the signal never rises.
+//! let sheet = read_text(b"1 0\nrequire anti(<s0>:)\n").unwrap();
 //! // Three cycles, the signal high in the last.
 //! let trace = [0x00, 0x08, 1, 1, 0, 0, 0, 0, 0, 1];
 //!
@@ -31,7 +27,7 @@ pub const WORDS: usize = 4096;
 /// Rows of an interval table.
 pub const ROWS: usize = 64;
 
-/// Bytes that the translator's output has, at least.
+/// Bytes that the output of the translator and of the reader of texts has, at least.
 pub const OUTPUT: usize = 8192;
 
 mod boundary {
@@ -63,6 +59,13 @@ mod boundary {
         pub fn fasunqir_translate(
             sheet: *const u8,
             sheet_len: usize,
+            out: *mut u8,
+            out_len: usize,
+        ) -> u64;
+
+        pub fn fasunqir_read_text(
+            text: *const u8,
+            text_len: usize,
             out: *mut u8,
             out_len: usize,
         ) -> u64;
@@ -102,7 +105,8 @@ impl fmt::Display for Verdict {
     }
 }
 
-/// Why an operation gave no answer: the lowest of the numbers 1–17 that applies.
+/// Why an operation gave no answer: the lowest of the numbers 1–17 that applies. [`read_text`] asks
+/// 18, 19 and 20 before them.
 ///
 /// ```
 /// let refusal = fasunqir::check(&[], &[]).unwrap_err();
@@ -117,7 +121,7 @@ pub struct Refusal {
     number: u8,
 }
 
-const REFUSALS: [&str; 17] = [
+const REFUSALS: [&str; 20] = [
     "the sheet has under 9 bytes or bytes 0–1 aren't its length less 2",
     "the sheet's version isn't 1",
     "the sheet's kind isn't 1",
@@ -137,10 +141,13 @@ const REFUSALS: [&str; 17] = [
     "the lent words are under 4,096",
     "the node asked for isn't a formula node",
     "a name below m is put on no cycle of the trace",
+    "over 32 round brackets are open at a place",
+    "the text is outside the grammar",
+    "more than 64 nodes or 8 clauses",
 ];
 
 impl Refusal {
-    /// The number, 1–17.
+    /// The number, 1–20.
     pub fn number(self) -> u8 {
         self.number
     }
@@ -184,7 +191,9 @@ enum Answer {
 fn unpack(answer: u64) -> Answer {
     let value = (answer / 256) as usize;
     match answer % 256 {
-        0 if (1..=17).contains(&value) => Answer::Refused(Refusal { number: value as u8 }),
+        0 if (1..=REFUSALS.len()).contains(&value) => {
+            Answer::Refused(Refusal { number: value as u8 })
+        }
         1 => Answer::Verdict(Verdict::Excused { clause: value }),
         2 => Answer::Verdict(Verdict::Broken(Place {
             clause: value / 262_144,
@@ -339,10 +348,7 @@ pub fn table_with(
 /// assert_eq!(formula.len(), 9 + 6 * nodes);
 /// ```
 pub fn translate(sheet: &[u8]) -> Result<Vec<u8>, Refusal> {
-    let mut out = vec![0; OUTPUT];
-    let length = translate_into(sheet, &mut out)?;
-    out.truncate(length);
-    Ok(out)
+    in_new_bytes(|out| translate_into(sheet, out))
 }
 
 /// [`translate`] into lent bytes, [`OUTPUT`] or more; gives the formula's length, and the bytes from
@@ -362,12 +368,62 @@ pub fn translate(sheet: &[u8]) -> Result<Vec<u8>, Refusal> {
 /// ```
 pub fn translate_into(sheet: &[u8], out: &mut [u8]) -> Result<usize, Refusal> {
     // Each pointer is of a live slice of the length that goes with it, and the operation keeps none.
-    let answer = unsafe {
+    written(unsafe {
         boundary::fasunqir_translate(sheet.as_ptr(), sheet.len(), out.as_mut_ptr(), out.len())
-    };
+    })
+}
+
+/// The stored bytes of a typed sheet. Refused by 18, 19 or 20, in this order, and then by the lowest
+/// of 1–9 that applies to the sheet that was read.
+///
+/// ```
+/// let text = b"3 0\n\
+///     assume pref([[s2]]:)\n\
+///     require implies(<s0> & slen = 5:, scount(s1) >= 1:)\n";
+/// let sheet = fasunqir::read_text(text).unwrap();
+/// assert_eq!(sheet[..9], [0x00, 0x4D, 1, 1, 3, 0, 0, 8, 2]); // 3 signals, 8 nodes, 2 clauses
+///
+/// let refusal = fasunqir::read_text(b"3 0\nrequire anti(<s0>)\n").unwrap_err();
+/// assert_eq!(refusal.to_string(), "19: the text is outside the grammar");
+/// ```
+pub fn read_text(text: &[u8]) -> Result<Vec<u8>, Refusal> {
+    in_new_bytes(|out| read_text_into(text, out))
+}
+
+/// [`read_text`] into lent bytes, [`OUTPUT`] or more; gives the sheet's length, and the bytes from
+/// there on keep their values. Fewer are refused by 14, after all else.
+///
+/// ```
+/// let text = b"1 0\nrequire anti(<s0>:)\n";
+/// let mut out = vec![7; fasunqir::OUTPUT];
+/// let length = fasunqir::read_text_into(text, &mut out).unwrap();
+/// assert_eq!((length, out[3], out[length]), (32, 1, 7));
+///
+/// let refusal = fasunqir::read_text_into(text, &mut out[..8191]);
+/// assert_eq!(refusal.unwrap_err().number(), 14);
+/// ```
+pub fn read_text_into(text: &[u8], out: &mut [u8]) -> Result<usize, Refusal> {
+    // Each pointer is of a live slice of the length that goes with it, and the operation keeps none.
+    written(unsafe {
+        boundary::fasunqir_read_text(text.as_ptr(), text.len(), out.as_mut_ptr(), out.len())
+    })
+}
+
+/// The length of the sheet that an operation wrote.
+fn written(answer: u64) -> Result<usize, Refusal> {
     match unpack(answer) {
         Answer::Done(length) => Ok(length),
         Answer::Refused(refusal) => Err(refusal),
-        Answer::Verdict(_) => panic!("no answer of a translation: {answer:#x}"),
+        Answer::Verdict(_) => panic!("no answer of a writer: {answer:#x}"),
     }
+}
+
+/// What an operation writes into bytes that are as many as it needs.
+fn in_new_bytes(
+    operation: impl FnOnce(&mut [u8]) -> Result<usize, Refusal>,
+) -> Result<Vec<u8>, Refusal> {
+    let mut out = vec![0; OUTPUT];
+    let length = operation(&mut out)?;
+    out.truncate(length);
+    Ok(out)
 }

@@ -1,5 +1,5 @@
-//! What is lent to the three operations, before and after; buffers one too short, just long enough
-//! and much too long.
+//! What is lent to check, table and translate, before and after; buffers one too short, just long
+//! enough and much too long. For typed sheets `texts` has the same.
 
 mod build;
 mod cases;

@@ -1,4 +1,4 @@
-//! The three programs beside the reference. FASUNQIR_PROGRAMS is the directory that they are in.
+//! The programs beside the reference. FASUNQIR_PROGRAMS is the directory that they are in.
 
 mod build;
 mod cases;
@@ -8,7 +8,8 @@ mod reference;
 
 use build::{hex, Sheet};
 use cases::{examples, paper, Case};
-use compare::{Tally, Translated};
+use compare::{Tally, TextTally, Translated};
+use generate::text::{typed, Flaw, TextShape};
 use generate::{damaged, Random, Shape};
 use reference::{formula, program};
 use std::io::Write;
@@ -144,4 +145,45 @@ fn sheetformula() {
         tally.evaluated(translated.agrees(&trace.cycles));
     }
     tally.demand("sheetformula", [0, 0, 0, 90, 70, 50]);
+}
+
+/// A good text of so many bytes.
+fn of_length(length: usize) -> Vec<u8> {
+    let (first, clause) = ("1 0\n", "require anti(<s0>:)\n");
+    let blanks = length - first.len() - clause.len();
+    [first, &" ".repeat(blanks), clause].concat().into()
+}
+
+#[test]
+#[ignore = "needs FASUNQIR_PROGRAMS"]
+fn sheettext() {
+    let mut inputs = odd();
+    inputs.extend(cases::texts::cases().into_iter().map(|case| case.text));
+    let mut random = Random::new(64);
+    for case in 0..400 {
+        let shape = TextShape {
+            signals: random.between(1, 16),
+            names: random.below(4),
+            nodes: random.between(1, 70),
+            clauses: random.between(1, 9),
+            flaw: random.pick(&[Flaw::Nothing, Flaw::Nothing, Flaw::Masks, Flaw::Nesting(33)]),
+        };
+        let text = typed(&mut random, shape).text;
+        let damage = generate::text::damaged;
+        inputs.push(if case % 3 == 0 { damage(&mut random, &text) } else { text });
+    }
+    // The longest text that is held, and longer ones, whose beginning is a good sheet or is not.
+    for length in [8192, 65_535, 65_536, 65_537, 65_538, 131_072, 200_000] {
+        inputs.extend([of_length(length), vec![b'('; length], vec![b'\n'; length]]);
+        let mut tail = of_length(8192);
+        tail.resize(length, b' ');
+        inputs.push(tail);
+    }
+    let mut tally = TextTally::default();
+    for input in &inputs {
+        assert_eq!(written("sheettext", input), program::stored(input), "{}", hex(input));
+        tally.count(&program::text(input));
+    }
+    tally.demand("sheettext", [250, 60, 500, 40, 15, 15, 30, 0]);
+    assert!(tally.numbers[0] >= 15, "long texts came too seldom");
 }

@@ -27,7 +27,7 @@ use Rattle.stored.specs.Sheet.{headerOf, nodePart, clausePart, nodesOf, storedO
 use Rattle.stored.specs.Trace.{cyclesOf, traceRefusal, traceAnswer, traceNumber}
 use Rattle.stored.specs.Tree.{pick}
 use Rattle.stored.proofs.Tree.{Earlier}
-use Rattle.stored.proofs.Accepted.{Opened, ClauseKept, clauses-kept, accepted-fits, type-cases, mask-small, open-answer, answer-accepted, cycles-accepted, answer-refused, cycles-refused, length-clauses}
+use Rattle.stored.proofs.Accepted.{Opened, ClauseKept, clauses-kept, accepted-fits, type-cases, mask-small, open-answer, answer-accepted, cycles-accepted, answer-refused, cycles-refused, length-clauses, sheet-number, trace-number}
 use Rattle.checker.specs.declared.check.Answer.{Answer}
 use Rattle.checker.specs.declared.check.Answer.the-variants.{Refused}
 use Rattle.checker.specs.Table.{orElse, wordsRefusal, wordsAfter}
@@ -35,7 +35,6 @@ use Rattle.places.specs.Task.{taskOf}
 use Rattle.places.specs.Laid.{IsFormula, Formulas}
 use Rattle.checker.specs.Check.{told, checkRefusal, checkAnswer}
 use Rattle.checker.specs.Clauses.{Sound, Sounds, clauseAt}
-use Rattle.checker.proofs.Refusals.{sheet-number, trace-number}
 use Rattle.checker.proofs.Opened.{cycled-as, told-accepted}
 
 -- ---- the lowest number

@@ -10,35 +10,14 @@ use lib.ListN.{length, replicate}
 use Rattle.stored.specs.Layout.{leastWords}
 use Rattle.semantics.proofs.Tests.{and-left, and-right}
 use Rattle.stored.specs.declared.Node.{Node}
-use Rattle.stored.specs.declared.SheetAnswer.{SheetAnswer}
-use Rattle.stored.specs.declared.SheetAnswer.the-variants.{Accepted}
-use Rattle.stored.specs.declared.TraceAnswer.{TraceAnswer}
-use Rattle.stored.specs.declared.TraceAnswer.the-variants.{Cycles}
 use Rattle.stored.specs.Bytes.{lowest}
 use Rattle.stored.specs.Node.{requirementSorts, isFormulaNode}
-use Rattle.stored.specs.Sheet.{headerOf, nodesOf, sheetRefusal, sheetAnswer, sheetNumber}
-use Rattle.stored.specs.Trace.{cycleCount, cyclesOf, traceRefusal, traceAnswer, traceNumber}
+use Rattle.stored.specs.Sheet.{headerOf, nodesOf, sheetRefusal}
+use Rattle.stored.specs.Trace.{cycleCount, cyclesOf, traceRefusal}
 use Rattle.stored.specs.Tree.{pick}
 use Rattle.tables.specs.Table.{standing, Inside}
 use Rattle.checker.specs.declared.table.TableAnswer.{TableAnswer}
 use Rattle.checker.specs.Table.{namePlaced, namesPlaced, heeded, placementOf, tableOf, nodeRules, nodeRefusal, orElse, wordsRefusal, tableRefusal, refusedWith, answerFor, tableAnswer, wordsAfter}
-
--- an answer's number is the refusal's
-pub sheet-number : (s : List ℕ) → sheetNumber (sheetAnswer s) ≡ sheetRefusal s
-unfolding sheetAnswer sheetNumber pick
-sheet-number s = go (eqb (sheetRefusal s) 0) refl
-  where
-    go : (b : Bool) → eqb (sheetRefusal s) 0 ≡ b → sheetNumber (pick b (Accepted (headerOf s)) (SheetAnswer.Refused (sheetRefusal s))) ≡ sheetRefusal s
-    go true e = sym (eqb-true (sheetRefusal s) 0 e)
-    go false e = refl
-
-pub trace-number : (s : ℕ) (t : List ℕ) → traceNumber (traceAnswer s t) ≡ traceRefusal s t
-unfolding traceAnswer traceNumber pick
-trace-number s t = go (eqb (traceRefusal s t) 0) refl
-  where
-    go : (b : Bool) → eqb (traceRefusal s t) 0 ≡ b → traceNumber (pick b (Cycles (cycleCount t)) (TraceAnswer.Refused (traceRefusal s t))) ≡ traceRefusal s t
-    go true e = sym (eqb-true (traceRefusal s t) 0 e)
-    go false e = refl
 
 or-first : (a b : ℕ) → eqb a 0 ≡ false → orElse a b ≡ a
 unfolding orElse

@@ -14,11 +14,11 @@ use Rattle.stored.specs.Columns.{columnsOf, traceOf}
 use Rattle.stored.specs.Node.{nodeAt}
 use Rattle.stored.specs.Sheet.{headerOf, nodePart, nodesOf, sheetRefusal, sheetAnswer, sheetNumber}
 use Rattle.stored.specs.Trace.{cycleCount, cyclesOf, traceRefusal, traceAnswer, traceNumber}
-use Rattle.stored.proofs.Accepted.{answer-accepted, cycles-accepted, answer-refused, cycles-refused}
+use Rattle.stored.proofs.Accepted.{answer-accepted, cycles-accepted, answer-refused, cycles-refused, sheet-number, trace-number}
 use Rattle.checker.specs.declared.table.TableAnswer.{TableAnswer}
 use Rattle.checker.specs.Table.{placementOf, tableOf, nodeRefusal, answerFor, tableRefusal, tableAnswer, wordsAfter}
 use Rattle.checker.proofs.Opened.{cycled-as, told-accepted}
-use Rattle.checker.proofs.Refusals.{Refuses, sheet-number, trace-number, by-sheet, by-trace, by-words, by-node}
+use Rattle.checker.proofs.Refusals.{Refuses, by-sheet, by-trace, by-words, by-node}
 
 module _ (s t : List ℕ) (node p0 p1 p2 : ℕ) (words : List ℕ) where
   pub sheet-refuses : (answer : SheetAnswer) (number k : ℕ) → answer ≡ sheetAnswer s → answer ≡ SheetAnswer.Refused k → number ≡ sheetNumber answer → Refuses s t node p0 p1 p2 words number

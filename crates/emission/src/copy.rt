@@ -5,6 +5,7 @@ use stored::Node;
 use stored::layout;
 use stored::masks;
 use stored::nodes;
+use stored::ops;
 ghost use mathlib.Core.Bool.{true};
 ghost use mathlib.Core.Path.{_≡_};
 ghost use Prim.Native.Nat.{_+_, _*_, _≤_};
@@ -44,10 +45,10 @@ fn put_drawing(out: &mut [u8], x: Node) -> usize
     let q = x.q;
     let a = x.a;
     let b = x.b;
-    if op == node::SYMBOL {
+    if op == ops::SYMBOL {
         return drawing::put_symbol(out, q, a);
     }
-    if op == node::MARK {
+    if op == ops::MARK {
         return drawing::put_mark(out, a);
     }
     drawing::put_gap(out, q / 16, q % 16, a, b)
@@ -60,7 +61,7 @@ fn copy_node(out: &mut [u8], map: &[usize], nodes: &[u8], i: usize) -> usize
 {
     let x = nodes::node_at(nodes, i);
     let op = x.op;
-    if (node::SYMBOL <= op) & (op <= node::GAP) {
+    if (ops::SYMBOL <= op) & (op <= ops::GAP) {
         return put_drawing(out, x);
     }
     put_copy(out, map, x)

@@ -1,6 +1,7 @@
 // Drawings told by other formulas.
 use crate::node;
 use crate::shared;
+use stored::ops;
 ghost use Prim.Native.Nat.{_<_};
 ghost use Rattle.semantics.specs.Proposition.{signal, negated};
 ghost use Rattle.semantics.specs.Formula.{slen, atLeast, steady};
@@ -39,7 +40,7 @@ pub fn put_symbol(out: &mut [u8], q: usize, k: usize) -> usize
     }
     let half = q / 2;
     if half == 1 {
-        return node::put_length(out, node::EQUAL, 1);
+        return node::put_length(out, ops::EQUAL, 1);
     }
     if q == 1 {
         let high = node::put_signal(out, k);
@@ -61,7 +62,7 @@ pub fn put_mark(out: &mut [u8], u: usize) -> usize
     requires { ⌜ u < 65536 ⌝ }
     ensures { λ r. ⌜ Wrote (now (out .entry)) (now (out .exit)) r (undrawnMark u) ⌝ }
 {
-    let here = node::put_length(out, node::EQUAL, 0);
+    let here = node::put_length(out, ops::EQUAL, 0);
     let marked = node::put_point(out, 3 + 2 * u);
     node::put_and(out, here, marked)
 }
@@ -73,7 +74,7 @@ fn put_least(out: &mut [u8], least: usize) -> usize
     if least == 0 {
         return shared::ANYWHERE;
     }
-    node::put_length(out, node::AT_LEAST, least)
+    node::put_length(out, ops::AT_LEAST, least)
 }
 
 // From a mark of name u to one of name v, `least` to `most` cycles.
@@ -83,7 +84,7 @@ pub fn put_gap(out: &mut [u8], u: usize, v: usize, least: usize, most: usize) ->
 {
     let start = node::put_point(out, 3 + 2 * u);
     let not_less = put_least(out, least);
-    let not_more = node::put_length(out, node::AT_MOST, most);
+    let not_more = node::put_length(out, ops::AT_MOST, most);
     let range = node::put_and(out, not_less, not_more);
     let gap = node::put_and(out, start, range);
     let end = node::put_point(out, 3 + 2 * v);

@@ -2,53 +2,10 @@
 use stored::Node;
 use stored::bytes;
 use stored::layout;
+use stored::ops;
 use stored::writer;
 ghost use mathlib.Core.Path.{_≡_};
 ghost use Rattle.emission.specs.Plan.{fits, Put, node, opSignal, opName, opNegated, opPoint, opStretch, opUnit, opChop, opAnd, opOr, opLength, opCount, opNot, opSome};
-
-// The ops, as document 01 numbers them; 27 to 29 are drawings.
-pub const SIGNAL: usize = 3;
-
-pub const NAME: usize = 4;
-
-pub const NEGATED: usize = 5;
-
-pub const POINT: usize = 16;
-
-pub const STRETCH: usize = 17;
-
-pub const UNIT: usize = 19;
-
-pub const CHOP: usize = 20;
-
-pub const AND: usize = 21;
-
-pub const OR: usize = 22;
-
-pub const LENGTH: usize = 24;
-
-pub const COUNT: usize = 25;
-
-pub const SYMBOL: usize = 27;
-
-pub const MARK: usize = 28;
-
-pub const GAP: usize = 29;
-
-pub const NOT: usize = 30;
-
-pub const SOME: usize = 31;
-
-// The comparisons, as q has them.
-pub const BELOW: usize = 0;
-
-pub const AT_MOST: usize = 1;
-
-pub const EQUAL: usize = 2;
-
-pub const AT_LEAST: usize = 3;
-
-pub const ABOVE: usize = 4;
 
 // Document 01's bound on a formula's nodes at its largest.
 const MOST_EMITTED: usize = 1025;
@@ -87,80 +44,80 @@ pub fn put(out: &mut [u8], op: usize, q: usize, a: usize, b: usize) -> usize
 pub fn put_signal(out: &mut [u8], k: usize) -> usize
     ensures { λ r. ⌜ Put (node opSignal 0 k 0) (now (out .entry)) (now (out .exit)) r ⌝ }
 {
-    put(out, SIGNAL, 0, k, 0)
+    put(out, ops::SIGNAL, 0, k, 0)
 }
 
 pub fn put_name(out: &mut [u8], u: usize) -> usize
     ensures { λ r. ⌜ Put (node opName 0 u 0) (now (out .entry)) (now (out .exit)) r ⌝ }
 {
-    put(out, NAME, 0, u, 0)
+    put(out, ops::NAME, 0, u, 0)
 }
 
 pub fn put_negated(out: &mut [u8], a: usize) -> usize
     ensures { λ r. ⌜ Put (node opNegated 0 a 0) (now (out .entry)) (now (out .exit)) r ⌝ }
 {
-    put(out, NEGATED, 0, a, 0)
+    put(out, ops::NOT_P, 0, a, 0)
 }
 
 pub fn put_point(out: &mut [u8], a: usize) -> usize
     ensures { λ r. ⌜ Put (node opPoint 0 a 0) (now (out .entry)) (now (out .exit)) r ⌝ }
 {
-    put(out, POINT, 0, a, 0)
+    put(out, ops::POINT, 0, a, 0)
 }
 
 pub fn put_stretch(out: &mut [u8], a: usize) -> usize
     ensures { λ r. ⌜ Put (node opStretch 0 a 0) (now (out .entry)) (now (out .exit)) r ⌝ }
 {
-    put(out, STRETCH, 0, a, 0)
+    put(out, ops::STRETCH, 0, a, 0)
 }
 
 pub fn put_unit(out: &mut [u8], a: usize) -> usize
     ensures { λ r. ⌜ Put (node opUnit 0 a 0) (now (out .entry)) (now (out .exit)) r ⌝ }
 {
-    put(out, UNIT, 0, a, 0)
+    put(out, ops::UNIT, 0, a, 0)
 }
 
 pub fn put_chop(out: &mut [u8], a: usize, b: usize) -> usize
     ensures { λ r. ⌜ Put (node opChop 0 a b) (now (out .entry)) (now (out .exit)) r ⌝ }
 {
-    put(out, CHOP, 0, a, b)
+    put(out, ops::CHOP, 0, a, b)
 }
 
 pub fn put_and(out: &mut [u8], a: usize, b: usize) -> usize
     ensures { λ r. ⌜ Put (node opAnd 0 a b) (now (out .entry)) (now (out .exit)) r ⌝ }
 {
-    put(out, AND, 0, a, b)
+    put(out, ops::AND, 0, a, b)
 }
 
 pub fn put_or(out: &mut [u8], a: usize, b: usize) -> usize
     ensures { λ r. ⌜ Put (node opOr 0 a b) (now (out .entry)) (now (out .exit)) r ⌝ }
 {
-    put(out, OR, 0, a, b)
+    put(out, ops::OR, 0, a, b)
 }
 
 // The length compared with b.
 pub fn put_length(out: &mut [u8], q: usize, b: usize) -> usize
     ensures { λ r. ⌜ Put (node opLength q 0 b) (now (out .entry)) (now (out .exit)) r ⌝ }
 {
-    put(out, LENGTH, q, 0, b)
+    put(out, ops::SLEN, q, 0, b)
 }
 
 // How often proposition a holds, compared with b.
 pub fn put_count(out: &mut [u8], q: usize, a: usize, b: usize) -> usize
     ensures { λ r. ⌜ Put (node opCount q a b) (now (out .entry)) (now (out .exit)) r ⌝ }
 {
-    put(out, COUNT, q, a, b)
+    put(out, ops::SCOUNT, q, a, b)
 }
 
 pub fn put_not(out: &mut [u8], a: usize) -> usize
     ensures { λ r. ⌜ Put (node opNot 0 a 0) (now (out .entry)) (now (out .exit)) r ⌝ }
 {
-    put(out, NOT, 0, a, 0)
+    put(out, ops::NOT, 0, a, 0)
 }
 
 // Some column for name u.
 pub fn put_some(out: &mut [u8], u: usize, a: usize) -> usize
     ensures { λ r. ⌜ Put (node opSome 0 a u) (now (out .entry)) (now (out .exit)) r ⌝ }
 {
-    put(out, SOME, 0, a, u)
+    put(out, ops::SOME, 0, a, u)
 }

@@ -1,6 +1,7 @@
 // The nodes that are written once, at fixed numbers: three lengths, then for each name u the proposition that it is marked, node
 // 3 + 2u, and that it is marked once on the interval, node 4 + 2u.
 use crate::node;
+use stored::ops;
 ghost use mathlib.Core.Path.{_≡_};
 ghost use Prim.Native.Nat.{_+_, _*_, _<_};
 ghost use Rattle.stored.specs.Sheet.{headerOf};
@@ -19,9 +20,9 @@ fn put_lengths(out: &mut [u8])
     requires { ⌜ (Good (now out)) × (count (now out) ≡ 0) ⌝ }
     ensures { λ _. ⌜ (Shared (now (out .exit)) 0) × (count (now (out .exit)) ≡ 3) × (Step (now (out .entry)) (now (out .exit)) 3) ⌝ }
 {
-    node::put_length(out, node::AT_LEAST, 0);
-    node::put_length(out, node::ABOVE, 0);
-    node::put_length(out, node::BELOW, 0);
+    node::put_length(out, ops::AT_LEAST, 0);
+    node::put_length(out, ops::ABOVE, 0);
+    node::put_length(out, ops::BELOW, 0);
 }
 
 // Name u, and that it has one mark.
@@ -30,7 +31,7 @@ fn put_name(out: &mut [u8], u: usize)
     ensures { λ _. ⌜ (Shared (now (out .exit)) (u + 1)) × (count (now (out .exit)) ≡ 3 + 2 * (u + 1)) × (Step (now (out .entry)) (now (out .exit)) 2) ⌝ }
 {
     let marked = node::put_name(out, u);
-    node::put_count(out, node::EQUAL, marked, 1);
+    node::put_count(out, ops::EQUAL, marked, 1);
 }
 
 pub fn put_shared(out: &mut [u8], m: usize)

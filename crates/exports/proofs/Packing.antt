@@ -8,24 +8,26 @@ use native.Mathlib.Omega.{arith}
 use borrow.Author.Tests.{eqb-true}
 use lib.Dec.{eqb, ltb, leb}
 use lib.ListN.{length, take}
+use Rattle.stored.specs.declared.WriteAnswer.{WriteAnswer}
+use Rattle.stored.specs.declared.WriteAnswer.the-variants as writing
 use Rattle.stored.specs.Layout.{nodesEnd, clausesEnd, leastOutput}
 use Rattle.semantics.proofs.Tests.{and-right}
 use Rattle.semantics.proofs.Cycles.{count-most}
-use Rattle.stored.specs.Sheet.{headerOf, nodesOf, sized, sheetRefusal, sheetRules}
+use Rattle.stored.specs.Sheet.{headerOf, nodesOf, sized, sheetRefusal}
 use Rattle.stored.specs.Tree.{pick}
 use Rattle.stored.specs.Emitted.{isEmitted, emittedCounted}
-use Rattle.stored.proofs.Accepted.{opened}
+use Rattle.stored.proofs.Accepted.{opened, sheet-small}
 use Rattle.stored.proofs.Emitted.{emitted-opened}
 use Rattle.checker.specs.declared.check.Place.{Place}
-use Rattle.translator.specs.declared.TranslateAnswer.{TranslateAnswer}
-use Rattle.translator.specs.declared.TranslateAnswer.the-variants as formula
-use Rattle.translator.specs.Answer.{translateRefusal, translateNumber, writtenLength}
+use Rattle.stored.specs.Output.{writeNumber, writtenLength}
+use Rattle.translator.specs.Refusal.{translateRefusal}
 use Rattle.emission.specs.Bound.{drawingAt, drawings, nodeBound}
 use Rattle.translator.specs.Translated.{Translated}
+use Rattle.text.specs.Text.{ReadText}
+use Rattle.text.proofs.Text.{written-fits, refused-small}
 use Rattle.translator.proofs.Translating.{number-told}
 use Rattle.checker.specs.Small.{SmallPlace}
-use Rattle.checker.proofs.Bounds.{lowest-small}
-use Rattle.exports.specs.Packed.{packedPlace, packedFormula, unpackedFormula, SmallFormula}
+use Rattle.exports.specs.Packed.{packedPlace, packedWriting, unpackedWriting, SmallWriting}
 
 pub place-small : (p : Place) → SmallPlace p → packedPlace p < 100000000
 unfolding packedPlace
@@ -36,14 +38,14 @@ place-small p s =
     let d = s .3 in
     omega arith
 
--- ---- the translator's answer
-pub unpacked : (a : TranslateAnswer) → unpackedFormula (packedFormula a) ≡ a
-unfolding packedFormula unpackedFormula pick
-unpacked (formula.Written size) =
+-- ---- the answer of an operation that writes a sheet
+pub unpacked : (a : WriteAnswer) → unpackedWriting (packedWriting a) ≡ a
+unfolding packedWriting unpackedWriting pick
+unpacked (writing.Written size) =
     let tag : (4 + size * 256) % 256 ≡ 4 = omega arith in
     let value : (4 + size * 256) / 256 ≡ size = omega arith in
     rw (tag, value)
-unpacked (formula.Refused number) =
+unpacked (writing.Refused number) =
     let tag : number * 256 % 256 ≡ 0 = omega arith in
     let value : number * 256 / 256 ≡ number = omega arith in
     rw (tag, value)
@@ -79,22 +81,18 @@ sheet-accepted s size e = go (eqb (sheetRefusal s) 0) refl e
     go true t e = eqb-true (sheetRefusal s) 0 t
     go false t e = e
 
-sheet-small : (s : List ℕ) → sheetRefusal s < 100
-unfolding sheetRefusal sheetRules
-sheet-small s = lowest-small 1 (sheetRules s) (omega arith) (omega arith)
-
 refusal-small : (s : List ℕ) (size : ℕ) → translateRefusal s size < 100
 unfolding translateRefusal
 refusal-small s size = go (eqb (sheetRefusal s) 0) (ltb size leastOutput) (sheet-small s)
   where
-    go : (a b : Bool) → sheetRefusal s < 100 → cond a (cond b 14 0) (sheetRefusal s) < 100
+    go : (a b : Bool) → sheetRefusal s < 10 → cond a (cond b 14 0) (sheetRefusal s) < 100
     go true true h = omega arith
     go true false h = omega arith
-    go false b h = h
+    go false b h = omega arith
 
-pub formula-small : (s x y : List ℕ) (r : TranslateAnswer) → Translated s x y r → SmallFormula r
-unfolding translateNumber writtenLength
-formula-small s x y (formula.Written size) t =
+pub formula-small : (s x y : List ℕ) (r : WriteAnswer) → Translated s x y r → SmallWriting r
+unfolding writeNumber writtenLength
+formula-small s x y (writing.Written size) t =
     let none : translateRefusal s (length x) ≡ 0 = sym (number-told t) in
     let f = t .formula none in
     let long = t .long none in
@@ -102,14 +100,26 @@ formula-small s x y (formula.Written size) t =
     let bound = f .bound in
     let most = bound-most s (sheet-accepted s (length x) none) in
     omega arith
-formula-small s x y (formula.Refused number) t =
+formula-small s x y (writing.Refused number) t =
     let told : number ≡ translateRefusal s (length x) = number-told t in
     let small = refusal-small s (length x) in
     omega arith
 
--- a packed answer is the translator's
-pub formula-packed : (s x y : List ℕ) (a : TranslateAnswer) (r : ℕ) → Translated s x y a → r ≡ packedFormula a
-    → (r ≡ packedFormula (unpackedFormula r)) × Translated s x y (unpackedFormula r)
-formula-packed s x y a r t e =
-    let same : unpackedFormula r ≡ a = ap unpackedFormula e ∙ unpacked a in
-    (e ∙ ap packedFormula (sym same), subst (λ (b : TranslateAnswer). Translated s x y b) (sym same) t)
+pub text-small : (text x y : List ℕ) (r : WriteAnswer) → ReadText text x y r → SmallWriting r
+text-small text x y (writing.Written size) p = omega (arith, written-fits text x y size p .long)
+text-small text x y (writing.Refused number) p = omega (arith, refused-small text x y number p .0)
+
+-- what is promised of an answer is promised of the packed one
+writing-packed : (Promised : WriteAnswer → Type 0) (a : WriteAnswer) (r : ℕ) → Promised a → r ≡ packedWriting a
+    → (r ≡ packedWriting (unpackedWriting r)) × Promised (unpackedWriting r)
+writing-packed Promised a r t e =
+    let same : unpackedWriting r ≡ a = ap unpackedWriting e ∙ unpacked a in
+    (e ∙ ap packedWriting (sym same), subst Promised (sym same) t)
+
+pub formula-packed : (s x y : List ℕ) (a : WriteAnswer) (r : ℕ) → Translated s x y a → r ≡ packedWriting a
+    → (r ≡ packedWriting (unpackedWriting r)) × Translated s x y (unpackedWriting r)
+formula-packed s x y a r = writing-packed (Translated s x y) a r
+
+pub text-packed : (text x y : List ℕ) (a : WriteAnswer) (r : ℕ) → ReadText text x y a → r ≡ packedWriting a
+    → (r ≡ packedWriting (unpackedWriting r)) × ReadText text x y (unpackedWriting r)
+text-packed text x y a r = writing-packed (ReadText text x y) a r

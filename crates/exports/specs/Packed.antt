@@ -4,6 +4,8 @@ use mathlib.Core.Bool.{cond, _&&_}
 use mathlib.Core.List.{List, [], _∷_, _++_}
 use lib.Dec.{eqb, leb}
 use lib.ListN.{length, drop}
+use Rattle.stored.specs.declared.WriteAnswer.{WriteAnswer}
+use Rattle.stored.specs.declared.WriteAnswer.the-variants as writing
 use Rattle.stored.specs.Bytes.{lowest}
 use Rattle.stored.specs.Layout.{leastOutput, leastWords}
 use Rattle.stored.specs.Sheet.{headerOf, nodesOf, sheetRefusal}
@@ -13,8 +15,6 @@ use Rattle.checker.specs.declared.check.Place.{Place}
 use Rattle.checker.specs.declared.check.Answer.{Answer}
 use Rattle.checker.specs.declared.check.Answer.the-variants.{Refused, Excused, Broken, Holds}
 use Rattle.checker.specs.Table.{placementOf, tableOf, nodeRefusal, orElse}
-use Rattle.translator.specs.declared.TranslateAnswer.{TranslateAnswer}
-use Rattle.translator.specs.declared.TranslateAnswer.the-variants as formula
 
 -- a clause's number and its three cycles as one number, 6 bits a cycle
 unfoldable pub packedPlace : Place → ℕ
@@ -36,19 +36,19 @@ unpacked r =
     pick (eqb (r % 256) 0) (Refused (r / 256))
     (pick (eqb (r % 256) 1) (Excused (r / 256)) (pick (eqb (r % 256) 2) (Broken (unpackedPlace (r / 256))) Holds))
 
--- the translator's answer: tag 0 and the refusal's number, 4 and the length of the sheet written
-unfoldable pub packedFormula : TranslateAnswer → ℕ
-packedFormula (formula.Written size) = 4 + size * 256
-packedFormula (formula.Refused number) = number * 256
+-- the answer of an operation that writes a sheet: tag 0 and the refusal's number, 4 and the length of the sheet written
+unfoldable pub packedWriting : WriteAnswer → ℕ
+packedWriting (writing.Written size) = 4 + size * 256
+packedWriting (writing.Refused number) = number * 256
 
 -- and back
-unfoldable pub unpackedFormula : ℕ → TranslateAnswer
-unpackedFormula r = pick (eqb (r % 256) 4) (formula.Written (r / 256)) (formula.Refused (r / 256))
+unfoldable pub unpackedWriting : ℕ → WriteAnswer
+unpackedWriting r = pick (eqb (r % 256) 4) (writing.Written (r / 256)) (writing.Refused (r / 256))
 
 -- its number can be packed
-abbrev pub SmallFormula : TranslateAnswer → Type 0
-SmallFormula (formula.Written size) = size ≤ leastOutput
-SmallFormula (formula.Refused number) = number ≤ leastOutput
+abbrev pub SmallWriting : WriteAnswer → Type 0
+SmallWriting (writing.Written size) = size ≤ leastOutput
+SmallWriting (writing.Refused number) = number ≤ leastOutput
 
 -- the table's answer: tag 0 and the refusal's number, 4 and 0 where there is none
 unfoldable pub packedTable : ℕ → ℕ

@@ -1,10 +1,11 @@
-// The check, the table and the translator for programs in Rust and C: over numbers and slices only, and with nothing to ask of the caller.
+// The check, the table, the translator and the reader of typed sheets for programs in Rust and C: over numbers and slices only, and with nothing to ask of the caller.
 use checker::check::Answer;
 use checker::check::Place;
 use checker::check::check;
 use checker::table::TableAnswer;
 use checker::table::table;
-use translator::TranslateAnswer;
+use stored::WriteAnswer;
+use text::read::read_text;
 use translator::translate;
 ghost use mathlib.Core.Path.{_≡_};
 ghost use mathlib.Core.List.{_++_};
@@ -15,8 +16,9 @@ ghost use Rattle.stored.specs.Trace.{traceRefusal};
 ghost use Rattle.checker.specs.Check.{checkAnswer, checkRefusal};
 ghost use Rattle.checker.specs.Table.{orElse, wordsAfter};
 ghost use Rattle.translator.specs.Translated.{Translated};
+ghost use Rattle.text.specs.Text.{ReadText};
 ghost use Rattle.checker.specs.Small.{Small, SmallPlace};
-ghost use Rattle.exports.specs.Packed.{packedPlace, packed, unpacked, packedFormula, unpackedFormula, SmallFormula, packedTable, rowsRefusal, rowsOf, rowsAfter};
+ghost use Rattle.exports.specs.Packed.{packedPlace, packed, unpacked, packedWriting, unpackedWriting, SmallWriting, packedTable, rowsRefusal, rowsOf, rowsAfter};
 
 fn packed_place(place: Place) -> u64
     requires { ⌜ SmallPlace place ⌝ }
@@ -54,25 +56,36 @@ pub extern "C" fn fasunqir_check(sheet: &[u8], trace: &[u8], words: &mut [u64]) 
     packed_answer(answer)
 }
 
-// The translator's answer as its tag and 256 times its value.
-fn packed_formula(answer: TranslateAnswer) -> u64
-    requires { ⌜ SmallFormula answer ⌝ }
-    ensures { λ r. ⌜ r ≡ packedFormula answer ⌝ }
+// The answer of an operation that writes a sheet as its tag and 256 times its value.
+fn packed_writing(answer: WriteAnswer) -> u64
+    requires { ⌜ SmallWriting answer ⌝ }
+    ensures { λ r. ⌜ r ≡ packedWriting answer ⌝ }
 {
     match answer {
-        TranslateAnswer::Written(size) => 4 + (size as u64) * 256,
-        TranslateAnswer::Refused(number) => (number as u64) * 256,
+        WriteAnswer::Written(size) => 4 + (size as u64) * 256,
+        WriteAnswer::Refused(number) => (number as u64) * 256,
     }
 }
 
 // Writes the formula of a sheet into the lent bytes: 4 + 256 times the length of what is written, or 256 times the refusal's number.
 #[no_mangle]
 pub extern "C" fn fasunqir_translate(sheet: &[u8], out: &mut [u8]) -> u64
-    ensures { λ r. ⌜ r ≡ packedFormula (unpackedFormula r) ⌝ }
-    ensures { λ r. ⌜ Translated (now (sheet .entry)) (now (out .entry)) (now (out .exit)) (unpackedFormula r) ⌝ }
+    ensures { λ r. ⌜ r ≡ packedWriting (unpackedWriting r) ⌝ }
+    ensures { λ r. ⌜ Translated (now (sheet .entry)) (now (out .entry)) (now (out .exit)) (unpackedWriting r) ⌝ }
 {
     let answer = translate(sheet, out);
-    packed_formula(answer)
+    packed_writing(answer)
+}
+
+// Reads a typed sheet and writes it as a stored sheet to the front of the lent bytes: 4 + 256 times its length, or 256 times the refusal's
+// number.
+#[no_mangle]
+pub extern "C" fn fasunqir_read_text(text: &[u8], out: &mut [u8]) -> u64
+    ensures { λ r. ⌜ r ≡ packedWriting (unpackedWriting r) ⌝ }
+    ensures { λ r. ⌜ ReadText (now (text .entry)) (now (out .entry)) (now (out .exit)) (unpackedWriting r) ⌝ }
+{
+    let answer = read_text(text, out);
+    packed_writing(answer)
 }
 
 // The 64 rows over the first 64 of the lent ones.

@@ -17,16 +17,16 @@ use Rattle.grammar.proofs.Said.{computing}
 use Rattle.grammar.proofs.Room.{failed-none, stuck-none}
 use Rattle.grammar.proofs.Next.{or-F, and-F, chop-F, star-F}
 use Rattle.typed.specs.Draft.{Draft, draft, last, node, putOver, putOrF, putAndF, putChopF, putUnitF}
-use Rattle.formulas.specs.declared.Got.{Got}
-use Rattle.formulas.specs.declared.leaf.Leaf.{Leaf}
-use Rattle.formulas.specs.declared.leaf.Lexeme.{Lexeme}
-use Rattle.formulas.specs.Lexemes.{tokenAs, Lexes}
-use Rattle.formulas.specs.Nodes.{Puttable, NodePut}
-use Rattle.formulas.specs.Reads.{ahead, signOf, Leafs, Ready, Reads, Then, after, beforeF}
-use Rattle.formulas.specs.Pieces.{Opens, next, aboutBounded, putBounded, aboutSlen, putSlen, aboutCounted, putCounted, aboutDraw, putDraw, aboutAt, putAt, aboutGap, putGap, Place, aboutLevel, hasLevel, putLevel, Taken, aboutPiece, aboutGroup, ReadsLevel, ReadsPiece}
-use Rattle.formulas.proofs.Chains.{Chain}
-use Rattle.formulas.proofs.Steps.{sign-run, close-back}
-use Rattle.formulas.proofs.Went.{Went, went-leaf, went-open, went-on, Told, told, closes-none, closes-from, closes-told, closes-put}
+use Rattle.propositions.specs.declared.Got.{Got}
+use Rattle.propositions.specs.declared.leaf.Leaf.{Leaf}
+use Rattle.propositions.specs.declared.leaf.Lexeme.{Lexeme}
+use Rattle.propositions.specs.Lexemes.{tokenAs, Lexes, Opens}
+use Rattle.propositions.specs.Nodes.{Puttable, NodePut}
+use Rattle.propositions.specs.Reads.{ahead, signOf, Leafs, Ready, Reads, Then, next, after, beforeF}
+use Rattle.formulas.specs.Pieces.{aboutBounded, putBounded, aboutSlen, putSlen, aboutCounted, putCounted, aboutDraw, putDraw, aboutAt, putAt, aboutGap, putGap, Place, aboutLevel, hasLevel, putLevel, Taken, aboutPiece, aboutBracketF, ReadsLevel, ReadsPiece}
+use Rattle.propositions.proofs.Chains.{Chain}
+use Rattle.propositions.proofs.Steps.{sign-run}
+use Rattle.propositions.proofs.Went.{Went, went-at, Told, told-bracket, closes-none, closes-from, closes-told, closes-put}
 
 -- a star after a piece
 star-next : (h : HoleF) (u : UnitF) (k : OrF → State) → step (hasUnitF h k u) (plain starSign) ≡ starred u (hasUnitF h k)
@@ -282,7 +282,7 @@ enter w word room ts h = elim (test (eqb word 23)) [
 ]
 
 bracket-first : (w : Place 0) (room : ℕ) (ts : List Token)
-    → run room (aboutLevel 0 w) (plain openRound ∷ ts) ≡ run room (aboutGroup w) (plain openRound ∷ ts)
+    → run room (aboutLevel 0 w) (plain openRound ∷ ts) ≡ run room (aboutBracketF w) (plain openRound ∷ ts)
 unfolding computing
 bracket-first w room ts = refl
 
@@ -290,8 +290,8 @@ word-first : {text : List ℕ} {at : ℕ} {first : Lexeme} → Lexes text true a
     → ahead text at ≡ plain (first .value) ∷ ahead text (first .at)
 unfolding tokenAs
 word-first {text = text} {first = first} lexes e = elim (lexes .told refl) [
-  | inl there ↦ there ∙ ap (λ tag. tokenAs tag (first .value) ∷ ahead text (first .at)) e
-  | inr end ↦ absurd (let four = end .1 in omega arith)
+  | inl there ↦ there .0 ∙ ap (λ tag. tokenAs tag (first .value) ∷ ahead text (first .at)) e
+  | inr end ↦ absurd (let five = end .1 in omega arith)
 ]
 
 module _ {room : ℕ} {text : List ℕ} {at : ℕ} {x : List ℕ} {count : ℕ} {y : List ℕ} {r : Got} {first : Lexeme} (lexes : Lexes text true at first) where
@@ -305,14 +305,14 @@ module _ {room : ℕ} {text : List ℕ} {at : ℕ} {x : List ℕ} {count : ℕ} 
       ap (λ ts. answer (run room (aboutLevel 0 w) ts)) there ∙ enter w (first .value) room (ahead text (first .at)) h)
       closes
 
-  pub term-group : first .tag ≡ 0 → first .value ≡ 22 → ReadsPiece aboutGroup room text at x count y r
+  pub term-bracket : first .tag ≡ 0 → first .value ≡ 22 → ReadsPiece aboutBracketF room text at x count y r
       → ReadsLevel 0 room text at x count y r
-  term-group e h closes =
+  term-bracket e h closes =
       let there = word-first lexes e ∙ ap (λ n. plain n ∷ ahead text (first .at)) h in
       closes-from (omega arith)
       (λ w.
       ap (λ ts. answer (run room (aboutLevel 0 w) ts)) there ∙ ap answer (bracket-first w room (ahead text (first .at)))
-      ∙ ap (λ ts. answer (run room (aboutGroup w) ts)) (sym there))
+      ∙ ap (λ ts. answer (run room (aboutBracketF w) ts)) (sym there))
       closes
 
   pub term-none : (first .tag ≡ 0 → ⊥) → r .ok ≡ false → length y ≡ length x
@@ -321,7 +321,7 @@ module _ {room : ℕ} {text : List ℕ} {at : ℕ} {x : List ℕ} {count : ℕ} 
   term-none h not size =
       closes-none not
       (λ w. elim (lexes .told refl) [
-        | inl there ↦ ap (λ ts. answer (run room (aboutLevel 0 w) ts)) there ∙ no-word w (first .tag) (first .value) (ahead text (first .at)) h
+        | inl there ↦ ap (λ ts. answer (run room (aboutLevel 0 w) ts)) (there .0) ∙ no-word w (first .tag) (first .value) (ahead text (first .at)) h
         | inr end ↦ ap (λ ts. answer (run room (aboutLevel 0 w) ts)) (end .0)
       ])
       size
@@ -335,43 +335,44 @@ module _ {room : ℕ} {text : List ℕ} {at : ℕ} {x : List ℕ} {count : ℕ} 
       no-word w (suc (suc (suc (suc tag)))) value ts h = failed-none room ts
 
 -- ---- a formula in brackets
-pub group-none : {text : List ℕ} {at depth : ℕ} {x : List ℕ} {count : ℕ} {y : List ℕ} {r : Got} {opening : Leaf} → Opens text at depth opening
-    → opening .ok ≡ false → r .ok ≡ false → length y ≡ length x → ReadsPiece aboutGroup depth text at x count y r
-group-none opened shut not size =
+pub bracket-none : {text : List ℕ} {at depth : ℕ} {x : List ℕ} {count : ℕ} {y : List ℕ} {r : Got} {opening : Leaf} → Opens text at depth opening
+    → opening .ok ≡ false → r .ok ≡ false → length y ≡ length x → ReadsPiece aboutBracketF depth text at x count y r
+bracket-none opened shut not size =
     closes-none not (λ w. opened .fails shut (aboutOrF (λ f. sign closeRound (hasUnitF (w .0) (w .1) (bracketF f))))) size
 
 module _ {text : List ℕ} {at depth : ℕ} {x : List ℕ} {count : ℕ} {z : List ℕ} {opening closing star : Leaf} {inner : Got}
     (ready : Ready text at x count) (ok : opening .ok ≡ true) (opened : Opens text at depth opening)
-    (closes : ReadsLevel 3 (depth - 1) text (opening .at) x count z inner)
+    (reads : Reads beforeF after putOrF (depth - 1) text (opening .at) x count z inner)
     (leaf : Leafs (signOf closeRound) (sign closeRound) text (inner .ok) (inner .at) closing)
     (leaf′ : Leafs (signOf starSign) (sign starSign) text (closing .ok) (closing .at) star) where
-  inside : Told beforeF after putOrF (depth - 1) text (opening .at) x count z inner
-  inside = told (oneF (chainF (unitF (atF 0)))) (formula-reads closes)
+  -- up to the closing bracket
+  abbrev closed : Got
+  closed = record { ok = closing .ok; at = closing .at; count = inner .count }
 
-  bracketed : Went aboutGroup depth text at (closing .ok) depth (closing .at) (λ w. hasLevel 0 w (bracketF (inside .tree)))
+  inside : Told (λ (k : OrF → State). sign openRound (aboutOrF (λ f. sign closeRound (k f)))) next putOrF depth text at x count z closed
+  inside = told-bracket aboutOrF (oneF (chainF (unitF (atF 0)))) ok opened reads leaf
+
+  bracketed : Went aboutBracketF depth text at (closing .ok) depth (closing .at) (λ w. hasLevel 0 w (bracketF (inside .tree)))
   bracketed =
-      went-leaf (λ w. hasLevel 0 w (bracketF (inside .tree))) depth (λ w. hasLevel 0 w (bracketF (inside .tree)))
-      (went-on
-      (λ (w : Place 0). record { wanted = closeRound; closing = inl (omega arith); onto = λ f. hasLevel 0 w (bracketF f) })
-      ok (went-open (λ w. aboutOrF (λ f. sign closeRound (hasLevel 0 w (bracketF f)))) opened) (inside .went))
-      leaf (λ _ w ts. close-back depth _ ts (opened .roomy ok))
+      let onto : Place 0 → OrF → State = λ w f. hasLevel 0 w (bracketF f) in
+      went-at onto (inside .went)
 
   -- no star follows
-  pub group-bare : star .ok ≡ false
-      → ReadsPiece aboutGroup depth text at x count z
+  pub bracket-bare : star .ok ≡ false
+      → ReadsPiece aboutBracketF depth text at x count z
       (record { ok = closing .ok; at = closing .at; count = inner .count })
   unfolding putUnitF
-  group-bare bare =
+  bracket-bare bare =
       closes-told
       (record {
         tree = bracketF (inside .tree);
         went = bracketed;
-        drafted = λ e. inside .drafted (leaf .well e);
-        onward = λ e. let h = opened .onward ok in let h′ = inside .onward (leaf .well e) in let h″ = leaf .onward e in omega arith;
-        more = λ e. inside .more (leaf .well e);
-        taken = λ e. let h = opened .onward ok in let h′ = inside .taken (leaf .well e) in let h″ = leaf .onward e in omega arith;
+        drafted = inside .drafted;
+        onward = inside .onward;
+        more = inside .more;
+        taken = inside .taken;
       })
-      (closes .reads .size)
+      (reads .size)
       (λ e w n ts taken there. elim taken [
         | inl is ↦
             let f = inside .tree in
@@ -387,37 +388,35 @@ module _ {text : List ℕ} {at depth : ℕ} {x : List ℕ} {count : ℕ} {z : Li
     pub star-puttable : length text < 18446744073709551615
         → Puttable (record { ok = true; at = star .at; count = inner .count }) (node 23 0 (inner .count - 1) 0) z
     star-puttable long =
-        let e = leaf .well (leaf′ .well starry) in
-        let h = opened .onward ok in
-        let h′ = inside .taken e in
-        let h″ = inside .went .within e in
+        let e = leaf′ .well starry in
+        let h = inside .taken e in
+        let h′ = inside .went .within e in
         record {
-          area = closes .reads .size ∙ ready .area;
+          area = reads .size ∙ ready .area;
           counted = λ _. omega (arith, ready .taken);
           fits = λ _ few. record { op-fits = omega arith; q-fits = omega arith; a-fits = omega arith; b-fits = omega arith };
         }
 
-    pub group-star : {y : List ℕ} {r : Got}
+    pub bracket-star : {y : List ℕ} {r : Got}
         → NodePut (record { ok = true; at = star .at; count = inner .count }) (node 23 0 (inner .count - 1) 0) z y r
-        → ReadsPiece aboutGroup depth text at x count y r
+        → ReadsPiece aboutBracketF depth text at x count y r
     unfolding computing putUnitF putOver last
-    group-star p =
-        let e′ = leaf′ .well starry in
-        let e = leaf .well e′ in
-        let h = opened .onward ok in
-        let h′ = inside .taken e in
-        let h″ = leaf .onward e′ in
-        let h‴ = leaf′ .onward starry in
+    bracket-star p =
+        let e = leaf′ .well starry in
+        let more = inside .more e in
+        let taken = inside .taken e in
+        let onward = inside .onward e in
+        let h = leaf′ .onward starry in
         closes-put (starF (inside .tree))
         (record {
           goes = λ _ w.
-              bracketed .goes e′ w ∙ ap (λ ts. answer (run depth (hasLevel 0 w (bracketF (inside .tree))) ts)) (leaf′ .next starry)
+              bracketed .goes e w ∙ ap (λ ts. answer (run depth (hasLevel 0 w (bracketF (inside .tree))) ts)) (leaf′ .next starry)
               ∙ ap answer (star-F depth (w .0) (w .1) (inside .tree) (ahead text (star .at)));
-          onward = λ _. let h = bracketed .onward e′ in omega arith;
+          onward = λ _. omega arith;
           within = λ _. leaf′ .within starry;
           fails = λ e. absurd (true≢false e);
         })
         p (λ _. ap (putOver 23 0 0) (inside .drafted e))
-        (λ _. let more = inside .more e in let on = bracketed .onward e′ in (omega arith, omega arith, omega arith))
-        (p .size ∙ closes .reads .size)
+        (λ _. (omega arith, omega arith, omega arith))
+        (p .size ∙ reads .size)
         (λ _ w n ts taken there. star-none w (starF (inside .tree)) depth n ts (λ k. refl) taken)

@@ -1,8 +1,3 @@
--- The laws of the readers of propositions and formulas.
-pub mod Chains
+-- The laws of the readers of formulas.
 pub mod Formulas
-pub mod Leaves
 pub mod Pieces
-pub mod Propositions
-pub mod Steps
-pub mod Went

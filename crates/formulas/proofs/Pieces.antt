@@ -10,44 +10,20 @@ use Rattle.semantics.specs.Formula.{Comparison}
 use Rattle.stored.specs.declared.Node.{Node}
 use Rattle.stored.specs.Tree.{comparisonOf}
 use Rattle.stored.specs.Written.{NodeFits}
-use Rattle.grammar.specs.Token.{number, named, signalled, openRound, closeRound, commaSign}
+use Rattle.grammar.specs.Token.{number, named, signalled, closeRound, commaSign}
 use Rattle.grammar.specs.Tree.{OrP, oneP, unitP, trueP, slenF, drawF}
-use Rattle.grammar.specs.Reader.{State, sign, aNumber, aName, aSignal, aComparison, aboutOrP, run, answer}
-use Rattle.grammar.proofs.Next.{open-sign}
+use Rattle.grammar.specs.Reader.{State, sign, aNumber, aName, aSignal, aComparison}
 use Rattle.typed.specs.Draft.{Draft, draft, last, node, put, putOver, comparisonNumber, inByte, putOrP, putUnitF}
-use Rattle.formulas.specs.declared.Got.{Got}
-use Rattle.formulas.specs.declared.leaf.Leaf.{Leaf}
-use Rattle.formulas.specs.declared.leaf.Lexeme.{Lexeme}
-use Rattle.formulas.specs.Lexemes.{Lexes}
-use Rattle.formulas.specs.Nodes.{Puttable, NodePut}
-use Rattle.formulas.specs.Reads.{ahead, signOf, comparisonToken, Leafs, Ready, Reads, after, beforeP}
-use Rattle.formulas.specs.Pieces.{Opens, next, aboutBounded, putBounded, aboutSlen, aboutCounted, putCounted, aboutDraw, aboutAt, aboutGap}
-use Rattle.formulas.proofs.Steps.{sign-run, comma-run, close-back, number-run, name-run, signal-run, comparison-run, shut-none}
-use Rattle.formulas.proofs.Went.{Went, went-none, went-leaf, further, went-open, went-on, went-at, told, reads-put}
-
-pub opens : (text : List ℕ) (at depth : ℕ) (ok : Bool) (r : Leaf) → (ok ≡ true → 0 < depth) → (0 < depth → ok ≡ true)
-    → Leafs (signOf openRound) (sign openRound) text ok at r → Opens text at depth r
-opens text at zero ok r roomy room leaf =
-    record {
-      roomy = λ e. roomy (leaf .well e);
-      goes = λ e. absurd (let h = roomy (leaf .well e) in omega arith);
-      onward = leaf .onward;
-      within = leaf .within;
-      fails = λ e s. shut-none s _;
-    }
-opens text at (suc depth) ok r roomy room leaf =
-    record {
-      roomy = λ e. omega arith;
-      goes = λ e s.
-          ap (λ ts. answer (run (suc depth) (sign openRound s) ts)) (leaf .next e)
-          ∙ ap answer (open-sign depth s (ahead text (r .at)) ∙ ap (λ room. run room s (ahead text (r .at))) less);
-      onward = leaf .onward;
-      within = leaf .within;
-      fails = λ e s. leaf .fails (room (omega arith)) e (suc depth) s;
-    }
-  where
-    less : depth ≡ suc depth - 1
-    less = omega arith
+use Rattle.propositions.specs.declared.Got.{Got}
+use Rattle.propositions.specs.declared.leaf.Leaf.{Leaf}
+use Rattle.propositions.specs.declared.leaf.Lexeme.{Lexeme}
+use Rattle.propositions.specs.Lexemes.{Lexes, Opens}
+use Rattle.propositions.specs.Nodes.{Puttable, NodePut}
+use Rattle.propositions.specs.Reads.{signOf, comparisonToken, Leafs, Ready, Reads, next, after, beforeP}
+use Rattle.propositions.specs.Propositions.{aboutBracketP}
+use Rattle.formulas.specs.Pieces.{aboutBounded, putBounded, aboutSlen, aboutCounted, putCounted, aboutDraw, aboutAt, aboutGap}
+use Rattle.propositions.proofs.Steps.{sign-run, comma-run, close-back, number-run, name-run, signal-run, comparison-run}
+use Rattle.propositions.proofs.Went.{Went, went-none, went-leaf, further, went-open, went-at, told, reads-put}
 
 -- a comparison by its number, and back
 pub compared : (q : ℕ) → q ≤ 4 → comparisonNumber (comparisonOf q) ≡ q
@@ -73,12 +49,6 @@ pub word-ready : {text : List ℕ} {at : ℕ} {x : List ℕ} {count : ℕ} {firs
 word-ready ready lexes e =
     let h = lexes .onward (omega arith) in
     record { area = ready .area; inside = lexes .within (omega arith); taken = omega (arith, ready .taken) }
-
--- after a bracket
-pub within-open : {text : List ℕ} {at depth : ℕ} {x : List ℕ} {count : ℕ} {opening : Leaf} → Ready text at x count → opening .ok ≡ true
-    → Opens text at depth opening → Ready text (opening .at) x count
-within-open ready ok opened =
-    record { area = ready .area; inside = opened .within ok; taken = let h = opened .onward ok in omega (arith, ready .taken) }
 
 module _ {text : List ℕ} {at depth : ℕ} {x : List ℕ} {count : ℕ} (ready : Ready text at x count) where
   -- a proposition, its closing sign and its node
@@ -123,63 +93,48 @@ module _ {text : List ℕ} {at depth : ℕ} {x : List ℕ} {count : ℕ} (ready 
       (went-leaf (λ k n. k (c, n)) depth (λ k. k (c, n)) w₁ leaf₂ (λ _ k ts. number-run depth n _ ts), further w₁ leaf₂)
 
   -- in brackets a proposition, then a comparison and a number
-  pub counted-reads : {op : ℕ} {opening closing cmp end : Leaf} {inner : Got} {z y : List ℕ} {r : Got}
-      → opening .ok ≡ true → Opens text at depth opening
-      → Reads beforeP after putOrP (depth - 1) text (opening .at) x count z inner
-      → Leafs (signOf closeRound) (sign closeRound) text (inner .ok) (inner .at) closing
-      → Leafs comparisonToken aComparison text (closing .ok) (closing .at) cmp → cmp .value ≤ 4
+  pub counted-reads : {op : ℕ} {cmp end : Leaf} {inner : Got} {z y : List ℕ} {r : Got}
+      → Reads aboutBracketP next putOrP depth text at x count z inner
+      → Leafs comparisonToken aComparison text (inner .ok) (inner .at) cmp → cmp .value ≤ 4
       → Leafs number aNumber text (cmp .ok) (cmp .at) end
       → NodePut (record { ok = end .ok; at = end .at; count = inner .count }) (node op (cmp .value) (inner .count - 1) (end .value)) z y r
       → Reads aboutCounted next (putCounted op) depth text at x count y r
   unfolding putOver last
-  counted-reads {op = op} {cmp = cmp} {end = end} ok opened reads leaf₁ leaf₂ q leaf₃ p =
+  counted-reads {op = op} {cmp = cmp} {end = end} reads leaf₁ q leaf₂ p =
       let t = told (oneP (unitP trueP)) reads in
       let tree = t .tree in
       let c = comparisonOf (cmp .value) in
       let n = end .value in
-      let w₁ =
-      went-on
-      (λ (k : OrP × Comparison × ℕ → State).
-      record { wanted = closeRound; closing = inl (omega arith); onto = λ p. aComparison (λ c. aNumber (λ n. k (p, c, n))) })
-      ok (went-open (λ k. aboutOrP (λ p. sign closeRound (aComparison (λ c. aNumber (λ n. k (p, c, n)))))) opened) (t .went) in
+      let onto : (OrP × Comparison × ℕ → State) → OrP → State = λ k p. aComparison (λ c. aNumber (λ n. k (p, c, n))) in
+      let w₁ = went-at onto (t .went) in
       let w₂ =
-      went-leaf (λ k. aComparison (λ c. aNumber (λ n. k (tree, c, n)))) depth (λ k. aComparison (λ c. aNumber (λ n. k (tree, c, n)))) w₁ leaf₁
-      (λ _ k ts. close-back depth _ ts (opened .roomy ok)) in
-      let w₃ =
-      went-leaf (λ k c. aNumber (λ n. k (tree, c, n))) depth (λ k. aNumber (λ n. k (tree, c, n))) w₂ leaf₂
+      went-leaf (λ k c. aNumber (λ n. k (tree, c, n))) depth (λ k. aNumber (λ n. k (tree, c, n))) w₁ leaf₁
       (λ _ k ts. comparison-run depth c _ ts) in
-      let w₄ = went-leaf (λ k n. k (tree, c, n)) depth (λ k. k (tree, c, n)) w₃ leaf₃ (λ _ k ts. number-run depth n _ ts) in
-      reads-put (tree, c, n) w₄ p
+      let w₃ = went-leaf (λ k n. k (tree, c, n)) depth (λ k. k (tree, c, n)) w₂ leaf₂ (λ _ k ts. number-run depth n _ ts) in
+      reads-put (tree, c, n) w₃ p
       (λ e.
-      ap (putOver op (cmp .value) n) (t .drafted (leaf₁ .well (leaf₂ .well (leaf₃ .well e))))
+      ap (putOver op (cmp .value) n) (t .drafted (leaf₁ .well (leaf₂ .well e)))
       ∙ ap (λ q. putOver op q n (putOrP tree (draft x count))) (sym (compared (cmp .value) q)))
       (λ e.
-      let e₂ = leaf₃ .well e in
-      let e₁ = leaf₂ .well e₂ in
+      let e₁ = leaf₂ .well e in
       let a = t .more (leaf₁ .well e₁) in
       let b = t .taken (leaf₁ .well e₁) in
       let i = t .onward (leaf₁ .well e₁) in
-      let o = opened .onward ok in
       let d₁ = leaf₁ .onward e₁ in
-      let d₂ = leaf₂ .onward e₂ in
-      let d₃ = leaf₃ .onward e in
+      let d₂ = leaf₂ .onward e in
       (omega arith, omega arith, omega arith))
       (p .size ∙ reads .size)
 
-  pub counted-puttable : {op : ℕ} {opening closing cmp end : Leaf} {inner : Got} {z : List ℕ} → length text < 18446744073709551615 → op < 256
-      → opening .ok ≡ true → Opens text at depth opening → Reads beforeP after putOrP (depth - 1) text (opening .at) x count z inner
-      → Leafs (signOf closeRound) (sign closeRound) text (inner .ok) (inner .at) closing
-      → Leafs comparisonToken aComparison text (closing .ok) (closing .at) cmp → cmp .value ≤ 4
+  pub counted-puttable : {op : ℕ} {cmp end : Leaf} {inner : Got} {z : List ℕ} → length text < 18446744073709551615 → op < 256
+      → Reads aboutBracketP next putOrP depth text at x count z inner
+      → Leafs comparisonToken aComparison text (inner .ok) (inner .at) cmp → cmp .value ≤ 4
       → Leafs number aNumber text (cmp .ok) (cmp .at) end
       → Puttable (record { ok = end .ok; at = end .at; count = inner .count }) (node op (cmp .value) (inner .count - 1) (end .value)) z
-  counted-puttable long small ok opened reads leaf₁ leaf₂ q leaf₃ =
+  counted-puttable long small reads leaf₁ q leaf₂ =
       record {
         area = reads .size ∙ ready .area;
-        counted = λ e.
-            let w = reads .took (leaf₁ .well (leaf₂ .well (leaf₃ .well e))) in
-            let h = opened .onward ok in
-            omega (arith, w .taken, w .within, ready .taken);
-        fits = λ e few. let n = leaf₃ .small e in record { op-fits = small; q-fits = omega arith; a-fits = omega arith; b-fits = omega arith };
+        counted = λ e. let w = reads .took (leaf₁ .well (leaf₂ .well e)) in omega (arith, w .taken, w .within, ready .taken);
+        fits = λ e few. let n = leaf₂ .small e in record { op-fits = small; q-fits = omega arith; a-fits = omega arith; b-fits = omega arith };
       }
 
   -- draw: a number and a signal

@@ -1,6 +1,2 @@
--- What the readers of propositions and formulas promise one another.
-pub mod Reads
-pub mod Lexemes
-pub mod Nodes
-pub mod Propositions
+-- What the readers of formulas promise one another.
 pub mod Pieces

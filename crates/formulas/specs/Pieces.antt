@@ -1,31 +1,16 @@
 -- The states and nodes of the pieces of a formula, and of pieces joined; nobody need believe it.
-use Prim.Native.Nat.{ℕ, zero, suc, _+_, _-_, _≤_, _<_}
-use mathlib.Core.Bool.{true, false}
+use Prim.Native.Nat.{ℕ, zero, suc, _+_, _≤_, _<_}
 use mathlib.Core.List.{List}
 use mathlib.Core.Logic.{_⊎_}
-use mathlib.Core.Option.{none}
 use mathlib.Core.Path.{_≡_}
-use lib.ListN.{length}
 use Rattle.semantics.specs.Formula.{Comparison}
 use Rattle.grammar.specs.Token.{plain, openRound, closeRound, commaSign}
 use Rattle.grammar.specs.Tree.{OrP, OrF, AndF, ChopF, UnitF, slenF, drawF, atF, gapF, bracketF}
-use Rattle.grammar.specs.Reader.{OrHoleF, AndHoleF, HoleF, State, sign, aNumber, aName, aSignal, aComparison, aboutOrP, aboutOrF, hasOrF, aboutAndF, hasAndF, aboutChopF, hasChopF, aboutUnitF, hasUnitF, startF, run, answer}
+use Rattle.grammar.specs.Reader.{OrHoleF, AndHoleF, HoleF, State, sign, aNumber, aName, aSignal, aComparison, aboutOrP, aboutOrF, hasOrF, aboutAndF, hasAndF, aboutChopF, hasChopF, aboutUnitF, hasUnitF, startF}
 use Rattle.typed.specs.Draft.{Draft, putOver, comparisonNumber, putOrP, putOrF, putAndF, putChopF, putUnitF}
-use Rattle.formulas.specs.declared.Got.{Got}
-use Rattle.formulas.specs.declared.leaf.Leaf.{Leaf}
-use Rattle.formulas.specs.Reads.{ahead, Closes}
-
--- a round bracket opened, where there is room for it
-pub record Opens (text : List ℕ) (at depth : ℕ) (r : Leaf) : Type 0 where
-  pub roomy : r .ok ≡ true → 0 < depth
-  pub goes : r .ok ≡ true → (s : State) → answer (run depth (sign openRound s) (ahead text at)) ≡ answer (run (depth - 1) s (ahead text (r .at)))
-  pub onward : r .ok ≡ true → at < r .at
-  pub within : r .ok ≡ true → r .at ≤ length text
-  pub fails : r .ok ≡ false → (s : State) → answer (run depth (sign openRound s) (ahead text at)) ≡ none
-
--- after a piece comes what k says of it
-abbrev pub next : {T : Type 0} → (T → State) → T → State
-next k t = k t
+use Rattle.propositions.specs.declared.Got.{Got}
+use Rattle.propositions.specs.Reads.{Closes}
+use Rattle.propositions.specs.Propositions.{aboutBracketP}
 
 -- <a>, [a], [[a]], {{a}} after the opening sign
 abbrev pub aboutBounded : ℕ → (OrP → State) → State
@@ -43,7 +28,7 @@ putSlen t d = putUnitF (slenF (t .0) (t .1)) d
 
 -- scount and sdur after their word
 abbrev pub aboutCounted : (OrP × Comparison × ℕ → State) → State
-aboutCounted k = sign openRound (aboutOrP (λ p. sign closeRound (aComparison (λ c. aNumber (λ n. k (p, c, n))))))
+aboutCounted k = aboutBracketP (λ p. aComparison (λ c. aNumber (λ n. k (p, c, n))))
 
 abbrev pub putCounted : ℕ → OrP × Comparison × ℕ → Draft → Draft
 putCounted op t d = putOver op (comparisonNumber (t .1)) (t .2) (putOrP (t .0) d)
@@ -113,8 +98,8 @@ Taken l n = (n ≡ 34) ⊎ ((33 ≤ n + l) × (n < 33))
 abbrev pub aboutPiece : ℕ → Place 0 → State
 aboutPiece word w = startF (w .0) (w .1) (plain word)
 
-abbrev pub aboutGroup : Place 0 → State
-aboutGroup w = sign openRound (aboutOrF (λ f. sign closeRound (hasUnitF (w .0) (w .1) (bracketF f))))
+abbrev pub aboutBracketF : Place 0 → State
+aboutBracketF w = sign openRound (aboutOrF (λ f. sign closeRound (hasUnitF (w .0) (w .1) (bracketF f))))
 
 -- a formula of a level read; a single piece read, from where it is about to be
 abbrev pub ReadsLevel : ℕ → ℕ → List ℕ → ℕ → List ℕ → ℕ → List ℕ → Got → Type 0

@@ -1,28 +1,27 @@
 // Formulas: | joins what & joins, & joins what ^ joins, ^ joins pieces; a bracketed formula is a piece, and may carry a star.
-use crate::Got;
-use crate::leaf;
-use crate::nodes;
-use crate::ops::CHOP;
-use crate::ops::STAR;
 use crate::piece;
-use crate::words::CHOP_SIGN;
-use crate::words::CLOSE_ROUND;
-use crate::words::OPEN_ROUND;
-use crate::words::STAR_SIGN;
+use propositions::Got;
+use propositions::leaf;
+use propositions::nodes;
+use propositions::words::CHOP_SIGN;
+use propositions::words::CLOSE_ROUND;
+use propositions::words::OPEN_ROUND;
+use propositions::words::STAR_SIGN;
+use stored::ops;
 ghost use Prim.Native.Nat.{_≤_};
 ghost use Rattle.typed.specs.Draft.{putOrF};
-ghost use Rattle.formulas.specs.Reads.{Ready, Reads, beforeF, after};
-ghost use Rattle.formulas.specs.Pieces.{aboutGroup, ReadsLevel, ReadsPiece};
+ghost use Rattle.propositions.specs.Reads.{Ready, Reads, beforeF, after};
+ghost use Rattle.formulas.specs.Pieces.{aboutBracketF, ReadsLevel, ReadsPiece};
 
 // How tightly a formula binds: level 0 is a single piece, level 1 joins pieces by ^, level 2 joins those by &, level 3 those by |.
 const FORMULA: usize = 3;
 
 // A formula in round brackets, from the first bracket on, and the star that may follow it.
-fn group(text: &[u8], at: usize, depth: usize, nodes: &mut [u8], count: usize) -> Got
+fn bracket(text: &[u8], at: usize, depth: usize, nodes: &mut [u8], count: usize) -> Got
     requires { ⌜ Ready (now text) at (now nodes) count ⌝ }
-    ensures { λ r. ⌜ ReadsPiece aboutGroup depth (now (text .entry)) at (now (nodes .entry)) count (now (nodes .exit)) r ⌝ }
+    ensures { λ r. ⌜ ReadsPiece aboutBracketF depth (now (text .entry)) at (now (nodes .entry)) count (now (nodes .exit)) r ⌝ }
 {
-    let open = piece::opened(text, at, depth);
+    let open = leaf::opened(text, at, depth);
     if !open.ok {
         return Got {
             ok: false,
@@ -30,7 +29,7 @@ fn group(text: &[u8], at: usize, depth: usize, nodes: &mut [u8], count: usize) -
             count,
         };
     }
-    let inner = joined(text, open.at, depth - 1, FORMULA, nodes, count);
+    let inner = formula(text, open.at, depth - 1, nodes, count);
     let close = leaf::sign(text, inner.ok, inner.at, CLOSE_ROUND);
     let star = leaf::sign(text, close.ok, close.at, STAR_SIGN);
     if star.ok {
@@ -39,7 +38,7 @@ fn group(text: &[u8], at: usize, depth: usize, nodes: &mut [u8], count: usize) -
             at: star.at,
             count: inner.count,
         };
-        return piece::over(got, STAR, 0, 0, nodes);
+        return nodes::over(got, ops::STAR, 0, 0, nodes);
     }
     Got {
         ok: close.ok,
@@ -63,7 +62,7 @@ fn term(text: &[u8], at: usize, depth: usize, nodes: &mut [u8], count: usize) ->
     }
     let word = first.value;
     if word == OPEN_ROUND {
-        return group(text, at, depth, nodes, count);
+        return bracket(text, at, depth, nodes, count);
     }
     piece::piece(text, first.at, depth, nodes, count, word)
 }
@@ -85,7 +84,7 @@ fn joined(text: &[u8], at: usize, depth: usize, level: usize, nodes: &mut [u8], 
     while more.ok {
         let left = nodes::last(got.count);
         let second = joined(text, more.at, depth, below, nodes, got.count);
-        got = nodes::join(CHOP + below, left, second, nodes);
+        got = nodes::join(ops::CHOP + below, left, second, nodes);
         more = leaf::sign(text, got.ok, got.at, sign);
     }
     got

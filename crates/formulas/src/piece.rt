@@ -1,65 +1,31 @@
 // The pieces of a formula that have no formula in them. Each is read from the place after the word or sign that it begins with.
-use crate::Got;
-use crate::leaf;
-use crate::leaf::Leaf;
-use crate::nodes;
-use crate::ops::AT;
-use crate::ops::BRACE;
-use crate::ops::DRAW;
-use crate::ops::GAP;
-use crate::ops::POINT;
-use crate::ops::SCOUNT;
-use crate::ops::SDUR;
-use crate::ops::SLEN;
-use crate::ops::STRETCH;
-use crate::ops::WHOLE;
-use crate::proposition;
-use crate::words::ABOVE;
-use crate::words::AT_WORD;
-use crate::words::BELOW;
-use crate::words::CLOSE_BRACES;
-use crate::words::CLOSE_ROUND;
-use crate::words::CLOSE_SQUARE;
-use crate::words::CLOSE_SQUARES;
-use crate::words::COMMA;
-use crate::words::DRAW_WORD;
-use crate::words::GAP_WORD;
-use crate::words::OPEN_BRACES;
-use crate::words::OPEN_ROUND;
-use crate::words::OPEN_SQUARE;
-use crate::words::OPEN_SQUARES;
-use crate::words::SCOUNT_WORD;
-use crate::words::SDUR_WORD;
-use crate::words::SLEN_WORD;
+use propositions::Got;
+use propositions::leaf;
+use propositions::nodes;
+use propositions::proposition;
+use propositions::words::ABOVE_SIGN;
+use propositions::words::AT_WORD;
+use propositions::words::BELOW_SIGN;
+use propositions::words::CLOSE_BRACES;
+use propositions::words::CLOSE_ROUND;
+use propositions::words::CLOSE_SQUARE;
+use propositions::words::CLOSE_SQUARES;
+use propositions::words::COMMA;
+use propositions::words::DRAW_WORD;
+use propositions::words::GAP_WORD;
+use propositions::words::OPEN_BRACES;
+use propositions::words::OPEN_SQUARE;
+use propositions::words::OPEN_SQUARES;
+use propositions::words::SCOUNT_WORD;
+use propositions::words::SDUR_WORD;
+use propositions::words::SLEN_WORD;
 use stored::Node;
+use stored::ops;
 use typed::draft;
 ghost use mathlib.Core.Path.{_≡_};
-ghost use Prim.Native.Nat.{_-_, _<_};
-ghost use Rattle.typed.specs.Draft.{node};
-ghost use Rattle.formulas.specs.Nodes.{Puttable, NodePut};
-ghost use Rattle.formulas.specs.Reads.{Ready, Reads};
-ghost use Rattle.formulas.specs.Pieces.{Opens, next, aboutBounded, putBounded, aboutSlen, putSlen, aboutCounted, putCounted, aboutDraw, putDraw, aboutAt, putAt, aboutGap, putGap, aboutPiece, ReadsPiece};
-
-// An opening round bracket, where `depth` more may be opened.
-pub fn opened(text: &[u8], at: usize, depth: usize) -> Leaf
-    ensures { λ r. ⌜ Opens (now (text .entry)) at depth r ⌝ }
-{
-    leaf::sign(text, depth != 0, at, OPEN_ROUND)
-}
-
-// One node more over the last one, put where all went well.
-pub fn over(got: Got, op: usize, q: usize, b: usize, nodes: &mut [u8]) -> Got
-    requires { ⌜ Puttable got (node op q (got .count - 1) b) (now nodes) ⌝ }
-    ensures { λ r. ⌜ NodePut got (node op q (got .count - 1) b) (now (nodes .entry)) (now (nodes .exit)) r ⌝ }
-{
-    let x = Node {
-        op,
-        q,
-        a: nodes::last(got.count),
-        b,
-    };
-    nodes::put(got, x, nodes)
-}
+ghost use Prim.Native.Nat.{_<_};
+ghost use Rattle.propositions.specs.Reads.{Ready, Reads, next};
+ghost use Rattle.formulas.specs.Pieces.{aboutBounded, putBounded, aboutSlen, putSlen, aboutCounted, putCounted, aboutDraw, putDraw, aboutAt, putAt, aboutGap, putGap, aboutPiece, ReadsPiece};
 
 // <a>, [a], [[a]], {{a}}, by the closing sign and the op.
 fn bounded(
@@ -76,14 +42,14 @@ fn bounded(
     requires { ⌜ (close ≡ 22 → ⊥) × (close ≡ 23 → ⊥) ⌝ }
     ensures { λ r. ⌜ Reads (aboutBounded close) next (putBounded op) depth (now (text .entry)) at (now (nodes .entry)) count (now (nodes .exit)) r ⌝ }
 {
-    let inner = proposition::either(text, at, depth, nodes, count);
+    let inner = proposition::proposition(text, at, depth, nodes, count);
     let end = leaf::sign(text, inner.ok, inner.at, close);
     let got = Got {
         ok: end.ok,
         at: end.at,
         count: inner.count,
     };
-    over(got, op, 0, 0, nodes)
+    nodes::over(got, op, 0, 0, nodes)
 }
 
 // slen compared with a number.
@@ -94,7 +60,7 @@ fn slen(text: &[u8], at: usize, depth: usize, nodes: &mut [u8], count: usize) ->
     let compared = leaf::comparison(text, true, at);
     let end = leaf::number(text, compared.ok, compared.at);
     let x = Node {
-        op: SLEN,
+        op: ops::SLEN,
         q: compared.value,
         a: 0,
         b: end.value,
@@ -113,24 +79,15 @@ fn counted(text: &[u8], at: usize, depth: usize, nodes: &mut [u8], count: usize,
     requires { ⌜ op < 256 ⌝ }
     ensures { λ r. ⌜ Reads aboutCounted next (putCounted op) depth (now (text .entry)) at (now (nodes .entry)) count (now (nodes .exit)) r ⌝ }
 {
-    let open = opened(text, at, depth);
-    if !open.ok {
-        return Got {
-            ok: false,
-            at,
-            count,
-        };
-    }
-    let inner = proposition::either(text, open.at, depth - 1, nodes, count);
-    let close = leaf::sign(text, inner.ok, inner.at, CLOSE_ROUND);
-    let compared = leaf::comparison(text, close.ok, close.at);
+    let inner = proposition::bracket(text, at, depth, nodes, count);
+    let compared = leaf::comparison(text, inner.ok, inner.at);
     let end = leaf::number(text, compared.ok, compared.at);
     let got = Got {
         ok: end.ok,
         at: end.at,
         count: inner.count,
     };
-    over(got, op, compared.value, end.value, nodes)
+    nodes::over(got, op, compared.value, end.value, nodes)
 }
 
 // draw(q, signal).
@@ -138,13 +95,13 @@ fn draw(text: &[u8], at: usize, depth: usize, nodes: &mut [u8], count: usize) ->
     requires { ⌜ Ready (now text) at (now nodes) count ⌝ }
     ensures { λ r. ⌜ Reads aboutDraw next putDraw depth (now (text .entry)) at (now (nodes .entry)) count (now (nodes .exit)) r ⌝ }
 {
-    let open = opened(text, at, depth);
+    let open = leaf::opened(text, at, depth);
     let symbol = leaf::number(text, open.ok, open.at);
     let comma = leaf::sign(text, symbol.ok, symbol.at, COMMA);
     let signal = leaf::signal(text, comma.ok, comma.at);
     let end = leaf::sign(text, signal.ok, signal.at, CLOSE_ROUND);
     let x = Node {
-        op: DRAW,
+        op: ops::SYMBOL,
         q: draft::in_byte(symbol.value),
         a: signal.value,
         b: 0,
@@ -162,11 +119,11 @@ fn at_name(text: &[u8], at: usize, depth: usize, nodes: &mut [u8], count: usize)
     requires { ⌜ Ready (now text) at (now nodes) count ⌝ }
     ensures { λ r. ⌜ Reads aboutAt next putAt depth (now (text .entry)) at (now (nodes .entry)) count (now (nodes .exit)) r ⌝ }
 {
-    let open = opened(text, at, depth);
+    let open = leaf::opened(text, at, depth);
     let name = leaf::name(text, open.ok, open.at);
     let end = leaf::sign(text, name.ok, name.at, CLOSE_ROUND);
     let x = Node {
-        op: AT,
+        op: ops::MARK,
         q: 0,
         a: name.value,
         b: 0,
@@ -184,7 +141,7 @@ fn gap(text: &[u8], at: usize, depth: usize, nodes: &mut [u8], count: usize) -> 
     requires { ⌜ Ready (now text) at (now nodes) count ⌝ }
     ensures { λ r. ⌜ Reads aboutGap next putGap depth (now (text .entry)) at (now (nodes .entry)) count (now (nodes .exit)) r ⌝ }
 {
-    let open = opened(text, at, depth);
+    let open = leaf::opened(text, at, depth);
     let first = leaf::name(text, open.ok, open.at);
     let comma1 = leaf::sign(text, first.ok, first.at, COMMA);
     let second = leaf::name(text, comma1.ok, comma1.at);
@@ -201,7 +158,7 @@ fn gap(text: &[u8], at: usize, depth: usize, nodes: &mut [u8], count: usize) -> 
         };
     }
     let x = Node {
-        op: GAP,
+        op: ops::GAP,
         q: 16 * first.value + second.value,
         a: least.value,
         b: most.value,
@@ -228,13 +185,13 @@ pub fn piece(
     ensures { λ r. ⌜ ReadsPiece (aboutPiece word) depth (now (text .entry)) at (now (nodes .entry)) count (now (nodes .exit)) r ⌝ }
 {
     match word {
-        BELOW => bounded(text, at, depth, nodes, count, ABOVE, POINT),
-        OPEN_SQUARE => bounded(text, at, depth, nodes, count, CLOSE_SQUARE, STRETCH),
-        OPEN_SQUARES => bounded(text, at, depth, nodes, count, CLOSE_SQUARES, WHOLE),
-        OPEN_BRACES => bounded(text, at, depth, nodes, count, CLOSE_BRACES, BRACE),
+        BELOW_SIGN => bounded(text, at, depth, nodes, count, ABOVE_SIGN, ops::POINT),
+        OPEN_SQUARE => bounded(text, at, depth, nodes, count, CLOSE_SQUARE, ops::STRETCH),
+        OPEN_SQUARES => bounded(text, at, depth, nodes, count, CLOSE_SQUARES, ops::WHOLE),
+        OPEN_BRACES => bounded(text, at, depth, nodes, count, CLOSE_BRACES, ops::UNIT),
         SLEN_WORD => slen(text, at, depth, nodes, count),
-        SCOUNT_WORD => counted(text, at, depth, nodes, count, SCOUNT),
-        SDUR_WORD => counted(text, at, depth, nodes, count, SDUR),
+        SCOUNT_WORD => counted(text, at, depth, nodes, count, ops::SCOUNT),
+        SDUR_WORD => counted(text, at, depth, nodes, count, ops::SDUR),
         DRAW_WORD => draw(text, at, depth, nodes, count),
         AT_WORD => at_name(text, at, depth, nodes, count),
         GAP_WORD => gap(text, at, depth, nodes, count),

@@ -1,45 +1,19 @@
--- Single steps of the reader in any room: brackets, joiners, and what cannot come next.
-use Prim.Native.Nat.{ℕ, zero, suc}
+-- Single steps of the reader in any room: a bracket, joiners, and what cannot come next.
+use Prim.Native.Nat.{ℕ, suc}
 use mathlib.Core.Bool.{false}
 use mathlib.Core.List.{List, _∷_}
-use mathlib.Core.Option.{none}
 use mathlib.Core.Path.{_≡_, refl, ap}
 use lib.Dec.{eqb}
 use Rattle.semantics.specs.Formula.{Comparison, below, atMost, equal, atLeast, above}
-use Rattle.grammar.specs.Token.{Token, plain, comparisonSign, openRound, closeRound, trueWord, falseWord, notSign, orSign, andSign, chopSign, starSign}
-use Rattle.grammar.specs.Tree.{OrP, AndP, bracketP, OrF, AndF, ChopF, bracketF, starF}
-use Rattle.grammar.specs.Reader.{OrHoleP, afterOrP, afterAndP, HoleP, noNotP, OrHoleF, afterOrF, AndHoleF, afterAndF, HoleF, afterChopF, State, failed, sign, aComparison, aboutOrP, hasOrP, aboutAndP, hasAndP, aboutUnitP, hasUnitP, aboutOrF, hasOrF, aboutAndF, hasAndF, aboutChopF, hasChopF, aboutUnitF, hasUnitF, step, run, answer}
+use Rattle.grammar.specs.Token.{Token, plain, comparisonSign, openRound, trueWord, falseWord, notSign, orSign, andSign, chopSign, starSign}
+use Rattle.grammar.specs.Tree.{OrP, AndP, OrF, AndF, ChopF, bracketF, starF}
+use Rattle.grammar.specs.Reader.{OrHoleP, afterOrP, afterAndP, HoleP, noNotP, OrHoleF, afterOrF, AndHoleF, afterAndF, HoleF, afterChopF, State, failed, sign, aComparison, hasOrP, aboutAndP, hasAndP, aboutUnitP, hasOrF, aboutAndF, hasAndF, aboutChopF, hasChopF, aboutUnitF, hasUnitF, step, run}
 use Rattle.grammar.proofs.Said.{computing, and-next-P, and-next-F, chop-next-F, star-next-F}
-use Rattle.grammar.proofs.Room.{failed-none}
 
--- a round bracket takes room, and gives it back
-pub open-P : (room : ℕ) (h : HoleP) (k : OrP → State) (ts : List Token)
-    → run (suc room) (aboutUnitP h k) (plain openRound ∷ ts) ≡ run room (aboutOrP (λ p. sign closeRound (hasUnitP h k (bracketP p)))) ts
-unfolding computing
-open-P room h k ts = refl
-
-pub open-F : (room : ℕ) (h : HoleF) (k : OrF → State) (ts : List Token)
-    → run (suc room) (aboutUnitF h k) (plain openRound ∷ ts) ≡ run room (aboutOrF (λ f. sign closeRound (hasUnitF h k (bracketF f)))) ts
-unfolding computing
-open-F room h k ts = refl
-
+-- a round bracket takes room
 pub open-sign : (room : ℕ) (s : State) (ts : List Token) → run (suc room) (sign openRound s) (plain openRound ∷ ts) ≡ run room s ts
 unfolding computing
 open-sign room s ts = refl
-
-pub no-room : (s : State) (ts : List Token) → answer (run zero s (plain openRound ∷ ts)) ≡ none
-unfolding computing
-no-room s ts = failed-none zero ts
-
-pub close-P : (room : ℕ) (s : OrP → State) (p : OrP) (ts : List Token)
-    → run room (hasOrP (λ p. sign closeRound (s p)) p) (plain closeRound ∷ ts) ≡ run (suc room) (s p) ts
-unfolding computing
-close-P room s p ts = refl
-
-pub close-F : (room : ℕ) (s : OrF → State) (f : OrF) (ts : List Token)
-    → run room (hasOrF (λ f. sign closeRound (s f)) f) (plain closeRound ∷ ts) ≡ run (suc room) (s f) ts
-unfolding computing
-close-F room s f ts = refl
 
 -- the joiners and the star
 pub or-P : (room : ℕ) (k : OrP → State) (p : OrP) (ts : List Token)

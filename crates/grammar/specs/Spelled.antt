@@ -1,11 +1,12 @@
 -- Request 1: how a tree is spelled, and which texts are in the grammar. `sayX t rest` is the tokens of t, then `rest`.
-use Prim.Native.Nat.{ℕ}
+use Prim.Native.Nat.{ℕ, _-_}
 use mathlib.Core.Bool.{Bool, true, false, not, _&&_, _||_}
 use mathlib.Core.List.{List, [], _∷_}
 use mathlib.Core.Path.{_≡_}
 use lib.Dec.{eqb}
+use lib.ListN.{length, getD}
 use Rattle.semantics.specs.Formula.{Comparison, below, above}
-use Rattle.grammar.specs.Token.{Token, plain, signalled, named, number, lineEnd, assumeWord, requireWord, typeWord, trueWord, falseWord, slenWord, scountWord, sdurWord, drawWord, atWord, gapWord, comparisonSign, openRound, closeRound, openSquare, closeSquare, openSquares, closeSquares, openBraces, closeBraces, orSign, andSign, chopSign, notSign, starSign, colonSign, commaSign, tokens}
+use Rattle.grammar.specs.Token.{Token, plain, signalled, named, number, lineEnd, assumeWord, requireWord, typeWord, trueWord, falseWord, slenWord, scountWord, sdurWord, drawWord, atWord, gapWord, comparisonSign, openRound, closeRound, openSquare, closeSquare, openSquares, closeSquares, openBraces, closeBraces, orSign, andSign, chopSign, notSign, starSign, colonSign, commaSign, isLineEnd, tokens}
 use Rattle.grammar.specs.Tree.{OrP, oneP, orP, AndP, unitP, andP, UnitP, trueP, falseP, signalP, nameP, notP, bracketP, OrF, oneF, orF, AndF, chainF, andF, ChopF, unitF, chopF, UnitF, pointF, stretchF, wholeF, braceF, slenF, scountF, sdurF, drawF, atF, gapF, bracketF, starF, TypedPart, TypedClause, prefC, antiC, initC, impliesC, followsC, triggersC, Line, assumeL, requireL, TypedSheet}
 
 unfoldable mutual
@@ -108,7 +109,12 @@ linesSingle [] = true
 linesSingle (assumeL d ∷ more) = clauseSingle d && linesSingle more
 linesSingle (requireL d ∷ more) = clauseSingle d && linesSingle more
 
+-- The text's last byte is a line end. Its last token is one too, and so nothing, not even a blank, stands after the last line.
+unfoldable pub endsLine : List ℕ → Bool
+endsLine text = isLineEnd (getD text (length text - 1) 0)
+
 -- the text is in the grammar and says t
 pub record Says (text : List ℕ) (t : TypedSheet) : Type 0 where
   pub spelled : saySheet t ≡ tokens text
+  pub ended : endsLine text ≡ true
   pub single : linesSingle (t .lines) ≡ true

@@ -189,6 +189,9 @@ spellings =
 unfoldable pub isBlank : ℕ → Bool
 isBlank b = eqb b 9 || eqb b 32
 
+unfoldable pub isLineEnd : ℕ → Bool
+isLineEnd b = eqb b 10
+
 unfoldable pub isDigit : ℕ → Bool
 isDigit b = leb 48 b && leb b 57
 

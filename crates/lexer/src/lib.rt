@@ -6,6 +6,9 @@ pub mod spellings;
 
 use crate::classes::is_blank;
 use crate::classes::is_digit;
+use crate::classes::is_line_end;
+ghost use mathlib.Core.Path.{_≡_};
+ghost use Rattle.grammar.specs.Spelled.{endsLine};
 ghost use Rattle.lexer.specs.Lexed.{Skipped, Next};
 
 // A word, sign or line end by its number; s0 to s15; u0 to u2; a number up to 65,535; anything else; the end of the text.
@@ -53,4 +56,15 @@ pub fn next(text: &[u8], at: usize) -> Lexed
         return numbers::number_at(text, start);
     }
     spellings::spelling_at(text, start)
+}
+
+// Whether the last byte is a line end.
+pub fn ends_line(text: &[u8]) -> bool
+    ensures { λ r. ⌜ r ≡ endsLine (now (text .entry)) ⌝ }
+{
+    let size = text.len();
+    if size == 0 {
+        return false;
+    }
+    is_line_end(text[size - 1])
 }

@@ -2,4 +2,4 @@
 pub mod Copies
 pub mod Texts
 pub mod Answers
-pub mod Formulas
+pub mod Outputs

@@ -17,7 +17,7 @@ use Rattle.checker.specs.declared.check.Answer.{Answer}
 use Rattle.checker.specs.declared.check.Answer.the-variants.{Refused, Excused, Broken, Holds}
 use Rattle.checker.specs.Small.{Small}
 use Rattle.printed.proofs.Copies.{copied-all}
-use Rattle.printed.specs.Text.{digitsOf, decimalOf, spaced, lineWith, ThreeDigits, refusedWord, refusedText, padded, Put}
+use Rattle.printed.specs.Lines.{digitsOf, decimalOf, spaced, lineWith, ThreeDigits, refusedWord, refusedText, padded, Put}
 use Rattle.printed.specs.Line.{brokenWord, holdsWord, excusedWord, brokenText, lineText}
 use Rattle.printed.specs.Page.{tableByte, tableText, textOf}
 
@@ -221,9 +221,13 @@ line-most word numbers h = omega (arith, line-length word numbers, spaced-few nu
 pub line-fits : (word numbers : List ℕ) (size : ℕ) → (length word + 4 * length numbers < size) × ThreeDigits numbers → length (lineWith word numbers) ≤ size
 line-fits word numbers size h = omega (arith, line-most word numbers (h .1), h .0)
 
+pub refused-length : (number : ℕ) → number < 1000 → length (refusedText number) ≤ 24
+unfolding refusedText
+refused-length number h = omega (arith, line-most refusedWord (number ∷ []) (h, omega arith))
+
 pub line-short : (answer : Answer) → Small answer → length (lineText answer) ≤ 24
-unfolding lineText refusedText brokenText
-line-short (Refused number) h = omega (arith, line-most refusedWord (number ∷ []) (omega (arith, h), omega arith))
+unfolding lineText brokenText
+line-short (Refused number) h = refused-length number (omega (arith, h))
 line-short (Excused clause) h = omega (arith, line-most excusedWord (clause ∷ []) (omega (arith, h), omega arith))
 line-short (Broken p) h =
     omega (arith, line-most brokenWord (p .clause ∷ p .i ∷ p .j ∷ p .k ∷ []) (omega (arith, h .0), (omega (arith, h .1), (omega (arith, h .2), (omega (arith, h .3), omega arith)))))

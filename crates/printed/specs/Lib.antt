@@ -1,6 +1,8 @@
 -- What the programs print.
 pub mod Input
-pub mod Text
+pub mod Lines
 pub mod Line
 pub mod Page
+pub mod Output
 pub mod Formula
+pub mod Sheet

@@ -11,7 +11,7 @@ use Rattle.checker.specs.declared.table.TableAnswer.{TableAnswer}
 use Rattle.checker.specs.Table.{tableAnswer}
 use Rattle.printed.specs.declared.page.Page.{Page}
 use Rattle.printed.specs.Input.{sheetOf, traceOf}
-use Rattle.printed.specs.Text.{refusedText, padded}
+use Rattle.printed.specs.Lines.{refusedText, padded}
 
 -- 0 to 9, a to f
 unfoldable pub glyphOf : ℕ → ℕ

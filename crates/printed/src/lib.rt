@@ -2,5 +2,7 @@
 pub mod formula;
 mod input;
 pub mod line;
+mod lines;
+mod output;
 pub mod page;
-mod text;
+pub mod sheet;

@@ -3,12 +3,12 @@ ghost use mathlib.Core.Path.{_≡_};
 ghost use Prim.Native.Nat.{_≤_};
 ghost use lib.ListN.{length, replicate};
 ghost use Rattle.checker.specs.Small.{Small};
-ghost use Rattle.printed.specs.Text.{Put};
+ghost use Rattle.printed.specs.Lines.{Put};
 ghost use Rattle.printed.specs.Line.{lineText, lineOf, lineFor, answerFor};
 use crate::input::lent_words;
 use crate::input::split;
-use crate::text::put_line;
-use crate::text::put_refused;
+use crate::lines::put_line;
+use crate::lines::put_refused;
 use checker::check::Answer;
 use checker::check::check;
 

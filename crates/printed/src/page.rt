@@ -7,7 +7,7 @@ use crate::input::byte_at;
 use crate::input::lent_words;
 use crate::input::split;
 use crate::input::word_at;
-use crate::text::put_refused;
+use crate::lines::put_refused;
 use checker::table::TableAnswer;
 use checker::table::table;
 

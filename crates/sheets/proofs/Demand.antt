@@ -20,8 +20,9 @@ use Rattle.stored.proofs.Accepted.{trace-opened, cycles-count}
 use Rattle.checker.specs.declared.check.Answer.{Answer}
 use Rattle.checker.specs.Table.{orElse, wordsRefusal}
 use Rattle.checker.specs.Check.{told, checkRefusal, checkAnswer}
-use Rattle.translator.specs.declared.TranslateAnswer.{TranslateAnswer}
-use Rattle.translator.specs.Answer.{translateRefusal, writtenLength}
+use Rattle.stored.specs.declared.WriteAnswer.{WriteAnswer}
+use Rattle.stored.specs.Output.{writtenLength}
+use Rattle.translator.specs.Refusal.{translateRefusal}
 use Rattle.translator.specs.Translated.{Translated}
 use Rattle.sheets.specs.Claim.{saysBroken, saysOther, written, Joint}
 
@@ -70,7 +71,7 @@ unfolding requirementOf
 required s σ = refl
 
 -- the joint claim, for every sheet, every trace, the bytes written and the check's verdict
-pub demand : (s x y : List ℕ) (r : TranslateAnswer) (t words : List ℕ) (v : Answer) → Translated s x y r → v ≡ checkAnswer s t words
+pub demand : (s x y : List ℕ) (r : WriteAnswer) (t words : List ℕ) (v : Answer) → Translated s x y r → v ≡ checkAnswer s t words
     → Joint s y r (length x) t words v
 unfolding written
 demand s x y r t words v w e =

@@ -11,8 +11,9 @@ use Rattle.stored.specs.Emitted.{isEmitted, emittedTrue}
 use Rattle.checker.specs.declared.check.Answer.{Answer}
 use Rattle.checker.specs.declared.check.Answer.the-variants.{Refused, Excused, Broken, Holds}
 use Rattle.checker.specs.Check.{checkRefusal}
-use Rattle.translator.specs.declared.TranslateAnswer.{TranslateAnswer}
-use Rattle.translator.specs.Answer.{translateRefusal, writtenLength}
+use Rattle.stored.specs.declared.WriteAnswer.{WriteAnswer}
+use Rattle.stored.specs.Output.{writtenLength}
+use Rattle.translator.specs.Refusal.{translateRefusal}
 use Rattle.emission.specs.Bound.{nodeBound}
 
 -- the check says Broken; it says another verdict
@@ -29,12 +30,12 @@ saysOther (Broken place) = false
 saysOther Holds = true
 
 -- the bytes that were written: the formula is what they say
-unfoldable pub written : List ℕ → TranslateAnswer → List ℕ
+unfoldable pub written : List ℕ → WriteAnswer → List ℕ
 written y r = take (writtenLength r) y
 
 -- Sheet s was translated into y with answer r, and checked on trace t with answer v; `size` bytes and `words` were lent. No number of the
 -- translator's applies.
-pub record Joint (s y : List ℕ) (r : TranslateAnswer) (size : ℕ) (t words : List ℕ) (v : Answer) : Type 0 where
+pub record Joint (s y : List ℕ) (r : WriteAnswer) (size : ℕ) (t words : List ℕ) (v : Answer) : Type 0 where
   -- the written bytes are a kind 2 sheet of the same signals and names, within the bound
   pub form : translateRefusal s size ≡ 0 → isEmitted (written y r) ≡ true
   pub signals : translateRefusal s size ≡ 0 → headerOf (written y r) .signals ≡ headerOf s .signals

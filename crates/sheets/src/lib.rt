@@ -1,7 +1,7 @@
 // The check and the translator together.
 use checker::check::Answer;
 use checker::check::check;
-use translator::TranslateAnswer;
+use stored::WriteAnswer;
 use translator::translate;
 ghost use mathlib.Core.Path.{_≡_};
 ghost use lib.ListN.{length};
@@ -12,7 +12,7 @@ ghost use Rattle.sheets.specs.Claim.{Joint};
 
 // What the translator and the check answered.
 pub struct Both {
-    pub formula: TranslateAnswer,
+    pub formula: WriteAnswer,
     pub verdict: Answer,
 }
 

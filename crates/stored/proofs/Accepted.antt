@@ -2,7 +2,8 @@
 use Prim.Native.Nat.{ℕ, zero, suc, _+_, _*_, _^_, _≤_, _<_}
 use mathlib.Core.Bool.{Bool, true, false, _&&_, false≢true}
 use mathlib.Core.List.{List}
-use mathlib.Core.Path.{_≡_, refl, subst}
+use mathlib.Core.Logic.{inl, inr}
+use mathlib.Core.Path.{_≡_, refl, sym, subst}
 use native.Mathlib.Nat.{pow-le-pow-right}
 use native.Mathlib.Omega.{arith}
 use borrow.Author.Tests.{ltb-true, leb-true, eqb-true}
@@ -22,8 +23,8 @@ use Rattle.stored.specs.Bytes.{inOrder}
 use Rattle.stored.specs.Node.{requirementSorts, isFormulaNode, nodeRight}
 use Rattle.stored.specs.Tree.{pick, formulaAt}
 use Rattle.stored.specs.Clause.{partsUsed, partRight, clauseRight, partNamed, clauseNamed, clauseRightAt, clauseNamedAt, typeOf, partOf, clauseOf}
-use Rattle.stored.specs.Sheet.{headerOf, nodePart, clausePart, nodesOf, storedOf, counted, sized, nodesRight, operandsFound, clausesRight, clausesNamed, sheetRules, sheetRefusal, sheetAnswer, clauseIn, clausesOf}
-use Rattle.stored.specs.Trace.{cycleCount, cycleAt, cycleRight, cyclesRight, traceRules, traceRefusal, traceAnswer, cyclesOf}
+use Rattle.stored.specs.Sheet.{headerOf, nodePart, clausePart, nodesOf, storedOf, counted, sized, nodesRight, operandsFound, clausesRight, clausesNamed, sheetRules, sheetRefusal, sheetAnswer, sheetNumber, clauseIn, clausesOf}
+use Rattle.stored.specs.Trace.{cycleCount, cycleAt, cycleRight, cyclesRight, traceRules, traceRefusal, traceAnswer, traceNumber, cyclesOf}
 use Rattle.semantics.proofs.Tests.{and-left, and-right, and-intro}
 use Rattle.stored.proofs.Rules.{every-at, lowest-kept, Lowest, lowest-law, length-inOrder, getD-inOrder}
 use Rattle.stored.proofs.Tree.{Earlier, sort-below}
@@ -302,6 +303,23 @@ cycles-refused s t k e = go (eqb (traceRefusal s t) 0) refl e
     go true p q = absurd (let z : _≡_ {A = ℕ} 0 1 = cc in omega arith)
     go false p q = (p, (cc))
 
+-- an answer's number is the refusal's
+pub sheet-number : (s : List ℕ) → sheetNumber (sheetAnswer s) ≡ sheetRefusal s
+unfolding sheetAnswer sheetNumber pick
+sheet-number s = go (eqb (sheetRefusal s) 0) refl
+  where
+    go : (b : Bool) → eqb (sheetRefusal s) 0 ≡ b → sheetNumber (pick b (Accepted (headerOf s)) (Refused (sheetRefusal s))) ≡ sheetRefusal s
+    go true e = sym (eqb-true (sheetRefusal s) 0 e)
+    go false e = refl
+
+pub trace-number : (s : ℕ) (t : List ℕ) → traceNumber (traceAnswer s t) ≡ traceRefusal s t
+unfolding traceAnswer traceNumber pick
+trace-number s t = go (eqb (traceRefusal s t) 0) refl
+  where
+    go : (b : Bool) → eqb (traceRefusal s t) 0 ≡ b → traceNumber (pick b (Cycles (cycleCount t)) (TraceAnswer.Refused (traceRefusal s t))) ≡ traceRefusal s t
+    go true e = sym (eqb-true (traceRefusal s t) 0 e)
+    go false e = refl
+
 pub cycles-count : (t : List ℕ) → length (cyclesOf t) ≡ cycleCount t
 unfolding cyclesOf
 cycles-count t = length-inOrder (cycleCount t) (cycleAt t)
@@ -314,3 +332,11 @@ cycles-at t i h = getD-inOrder (cycleCount t) (cycleAt t) i 0 h
 pub sheet-lowest : (s : List ℕ) → Lowest 1 (sheetRules s) (sheetRefusal s)
 unfolding sheetRefusal
 sheet-lowest s = lowest-law 1 (sheetRules s) (omega arith)
+
+pub sheet-small : (s : List ℕ) → sheetRefusal s < 10
+unfolding sheetRules
+sheet-small s =
+    elim (sheet-lowest s .range) [
+      | inl e ↦ omega arith
+      | inr e ↦ omega (arith, e .1)
+    ]

@@ -9,4 +9,5 @@ pub mod Sheet
 pub mod Trace
 pub mod Columns
 pub mod Written
+pub mod Output
 pub mod Emitted

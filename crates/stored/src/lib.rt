@@ -4,6 +4,7 @@ pub mod clauses;
 pub mod layout;
 pub mod masks;
 pub mod nodes;
+pub mod ops;
 pub mod sheet;
 pub mod trace;
 pub mod writer;
@@ -45,5 +46,11 @@ pub enum SheetAnswer {
 // How many cycles an accepted trace has, or the number of the refusal.
 pub enum TraceAnswer {
     Cycles(usize),
+    Refused(usize),
+}
+
+// The length of what was written into lent bytes, or the number of the refusal.
+pub enum WriteAnswer {
+    Written(usize),
     Refused(usize),
 }

@@ -1,15 +1,13 @@
 -- Laws of reading clauses: parts one after another, the word of a type, and a clause put after the others.
 use Prim.Native.Nat.{ℕ, zero, suc, _+_, _-_, _≤_, _<_}
-use mathlib.Core.Bool.{Bool, true, false, true≢false, _&&_}
+use mathlib.Core.Bool.{Bool, true, false, true≢false}
 use mathlib.Core.List.{List, [], _∷_, map}
 use mathlib.Core.Logic.{inl, inr}
 use mathlib.Core.Option.{none}
 use mathlib.Core.Path.{_≡_, refl, sym, ap, ap₂, _∙_}
 use native.Mathlib.Omega.{arith}
-use borrow.Author.Tests.{leb-true, le-leb, ne-eqb}
-use lib.Dec.{leb, eqb}
 use lib.ListN.{length}
-use Rattle.semantics.proofs.Tests.{test, and-intro, and-left, and-right}
+use Rattle.semantics.proofs.Tests.{test}
 use Rattle.stored.specs.declared.StoredClause.{StoredClause}
 use Rattle.stored.specs.Clause.{partsUsed}
 use Rattle.grammar.specs.Token.{Token, plain, signalled, named, number, outside, openRound, closeRound, commaSign}
@@ -17,22 +15,18 @@ use Rattle.grammar.specs.Tree.{TypedPart, TypedClause, prefC, antiC, initC, imp
 use Rattle.grammar.specs.Reader.{State, failed, sign, aClause, step, run, answer}
 use Rattle.grammar.proofs.Said.{computing}
 use Rattle.grammar.proofs.Next.{open-sign}
-use Rattle.grammar.proofs.Room.{stuck-none}
-use Rattle.lexer.specs.declared.Lexed.{Lexed}
-use Rattle.lexer.specs.declared.Token.{Token as Lexeme}
-use Rattle.lexer.specs.declared.Token.the-variants.{Plain, Signal, Name, Number, Outside, End}
-use Rattle.lexer.specs.Lexed.{Next, isEnd, meant}
-use Rattle.lexer.proofs.Read.{token-told, end-told}
 use Rattle.typed.specs.Meaning.{partsOf}
 use Rattle.typed.specs.Draft.{Draft, draft, last, putPart, putParts, rootsOf, partMask, typeNumber, fieldsOf, ClauseFits, added, putClause, Sketch, putTyped}
 use Rattle.typed.proofs.Clauses.{mask-small}
-use Rattle.formulas.specs.declared.leaf.Leaf.{Leaf}
+use Rattle.propositions.specs.declared.leaf.Leaf.{Leaf}
+use Rattle.propositions.specs.Lexemes.{isWord, wordFrom, WordRead}
+use Rattle.propositions.proofs.Leaves.{apart, word-leafs}
+use Rattle.propositions.proofs.Steps.{comma-run, close-run}
 use Rattle.text.specs.declared.part.GotPart.{GotPart}
 use Rattle.text.specs.declared.clause.GotParts.{GotParts}
 use Rattle.text.specs.declared.clause.GotClause.{GotClause}
-use Rattle.formulas.specs.Reads.{ahead, signOf, Leafs, Ready}
-use Rattle.text.specs.Parts.{PartRead, theParts, fieldsFrom, PartsTook, PartsRead, LastNode, WithFirst, Drawn, LineReady, LineRead, hasClause, plainNumber, typeToken, TypeNumber}
-use Rattle.text.proofs.Parts.{sign-read}
+use Rattle.propositions.specs.Reads.{ahead, signOf, Leafs, Ready}
+use Rattle.text.specs.Parts.{PartRead, theParts, fieldsFrom, PartsTook, PartsRead, LastNode, WithFirst, Drawn, LineReady, LineRead, hasClause}
 
 -- ---- parts one after another
 -- a part's root, where there are at most 64 nodes
@@ -72,13 +66,17 @@ fields-bare : (type role : ℕ) → bare type role ≡ fieldsFrom type role [] [
 unfolding fieldsFrom
 fields-bare type role = refl
 
-module _ (room type role : ℕ) (text : List ℕ) (ok : Bool) (at : ℕ) (x : List ℕ) (count : ℕ) where
-  pub one-read : (y : List ℕ) (p : GotPart) (root : ℕ) → type < 256 → role < 256 → PartRead room text ok at x count y p → LastNode (p .count) root
-      → PartsRead 0 room type role text ok at x count y
-      (record { ok = p .ok; at = p .at; count = p .count; fields = shifted root (p .mask) (bare type role) })
+module _ {room type role : ℕ} {text : List ℕ} {ok : Bool} {at : ℕ} {x : List ℕ} {count : ℕ} where
+  -- a part alone
+  pub one-read : {n : ℕ} {y : List ℕ} {p : GotPart} {r : GotParts} → n ≡ 0 → type < 256 → role < 256 → PartRead room text ok at x count y p
+      → WithFirst p (record { ok = p .ok; at = p .at; count = p .count; fields = bare type role }) r
+      → PartsRead n room type role text ok at x count y r
   unfolding theParts putParts rootsOf
-  one-read y p root h₁ h₂ read is =
-      record {
+  one-read {y = y} {p = p} alone h₁ h₂ read with =
+      let root = with .root in
+      let is = with .last-node in
+      rw (alone, with .is)
+      (record {
         well = read .well;
         took = λ good.
             let d = read .took good in
@@ -110,10 +108,10 @@ module _ (room type role : ℕ) (text : List ℕ) (ok : Bool) (at : ℕ) (x : Li
               taken = d .taken;
             };
         fails = λ good bad s. read .fails good bad closeRound (λ d. s (d ∷ []));
-      }
+      })
 
   -- a part, a comma and the others
-  module _ (n : ℕ) (w y : List ℕ) (p : GotPart) (comma : Leaf) (q : GotParts) (read : PartRead room text ok at x count w p)
+  module _ {n : ℕ} {w y : List ℕ} {p : GotPart} {comma : Leaf} {q : GotParts} (read : PartRead room text ok at x count w p)
       (comma-read : Leafs (signOf commaSign) (sign commaSign) text (p .ok) (p .at) comma)
       (others : PartsRead n room type role text (comma .ok) (comma .at) w (p .count) y q) where
     -- what comes after the first part d
@@ -131,7 +129,7 @@ module _ (room type role : ℕ) (text : List ℕ) (ok : Bool) (at : ℕ) (x : Li
     to-others good also s =
         to-comma good s
         ∙ ap (λ (ts : List Token). answer (run room (sign commaSign (next s (read .took good .tree))) ts)) (comma-read .next also)
-        ∙ ap answer (sign-read room commaSign (next s (read .took good .tree)) (ahead text (comma .at)) refl refl)
+        ∙ ap answer (comma-run room (next s (read .took good .tree)) (ahead text (comma .at)))
 
     more-fails : ok ≡ true → q .ok ≡ false → (s : List TypedPart → State) → answer (run room (theParts (suc n) s) (ahead text at)) ≡ none
     unfolding next theParts
@@ -191,9 +189,9 @@ module _ (room type role : ℕ) (text : List ℕ) (ok : Bool) (at : ℕ) (x : Li
           taken = omega arith;
         }
 
-    pub more-read : (r : GotParts) → WithFirst p q r → PartsRead (suc n) room type role text ok at x count y r
-    more-read r first =
-        rw (first .is)
+    pub more-read : {m : ℕ} {r : GotParts} → m ≡ suc n → WithFirst p q r → PartsRead m room type role text ok at x count y r
+    more-read one first =
+        rw (one, first .is)
         (record {
           well = λ final. read .well (comma-read .well (others .well final));
           took = more-took (first .root) (first .last-node);
@@ -201,11 +199,11 @@ module _ (room type role : ℕ) (text : List ℕ) (ok : Bool) (at : ℕ) (x : Li
         })
 
 -- where the next part may be read
-pub next-ready : {room : ℕ} {text : List ℕ} {at : ℕ} {x : List ℕ} {count : ℕ} {y : List ℕ} (ok : Bool) (p : GotPart) (comma : Leaf)
+pub next-ready : {room : ℕ} {text : List ℕ} {at : ℕ} {x : List ℕ} {count : ℕ} {y : List ℕ} {ok : Bool} {p : GotPart} {comma : Leaf}
     → (ok ≡ true → Ready text at x count) → PartRead room text ok at x count y p
     → Leafs (signOf commaSign) (sign commaSign) text (p .ok) (p .at) comma → length y ≡ length x
     → comma .ok ≡ true → Ready text (comma .at) y (p .count)
-next-ready ok p comma ready read comma-read same also =
+next-ready ready read comma-read same also =
     let good = comma-read .well also in
     let d = read .took good in
     let was = ready (read .well good) in
@@ -216,21 +214,15 @@ next-ready ok p comma ready read comma-read same also =
     record { area = same ∙ h₁; inside = comma-read .within also; taken = omega arith }
 
 -- as many parts as the type uses
-pub used-three : (type : ℕ) → 1 ≤ type → type ≤ 6 → (partsUsed type ≡ 1 → ⊥) → (partsUsed type ≡ 2 → ⊥) → partsUsed type ≡ 3
+pub used-some : (v : ℕ) → v ≤ 5 → 1 ≤ partsUsed (v + 1)
 unfolding partsUsed
-used-three zero low high one two = absurd (omega arith)
-used-three (suc zero) low high one two = absurd (one refl)
-used-three (suc (suc zero)) low high one two = absurd (two refl)
-used-three (suc (suc (suc zero))) low high one two = absurd (one refl)
-used-three (suc (suc (suc (suc zero)))) low high one two = absurd (two refl)
-used-three (suc (suc (suc (suc (suc zero))))) low high one two = refl
-used-three (suc (suc (suc (suc (suc (suc zero)))))) low high one two = refl
-used-three (suc (suc (suc (suc (suc (suc (suc type))))))) low high one two = absurd (omega arith)
-
-pub used-read : {room role : ℕ} {text : List ℕ} {ok : Bool} {at : ℕ} {x : List ℕ} {count : ℕ} {y : List ℕ} {r : GotParts} (n type : ℕ)
-    → partsUsed type ≡ suc n → PartsRead n room type role text ok at x count y r → PartsRead (partsUsed type - 1) room type role text ok at
-    x count y r
-used-read n type e read = let same : partsUsed type - 1 ≡ n = omega arith in rw same read
+used-some zero h = omega arith
+used-some (suc zero) h = omega arith
+used-some (suc (suc zero)) h = omega arith
+used-some (suc (suc (suc zero))) h = omega arith
+used-some (suc (suc (suc (suc zero)))) h = omega arith
+used-some (suc (suc (suc (suc (suc zero))))) h = omega arith
+used-some (suc (suc (suc (suc (suc (suc v)))))) h = absurd (omega arith)
 
 -- ---- a clause
 -- what comes after the parts of a clause of this type, of which there are as many as the type uses
@@ -263,17 +255,16 @@ afterParts (suc (suc (suc (suc (suc (suc zero)))))) k ds = afterThree triggersC 
 afterParts (suc (suc (suc (suc (suc (suc (suc t))))))) k ds = failed
 
 -- the word of a type
-type-read : (room t : ℕ) (k : TypedClause → State) (ts : List Token) → 1 ≤ t → t ≤ 6
-    → run room (aClause k) (typeToken t ∷ ts) ≡ run room (sign openRound (theParts (partsUsed t - 1) (afterParts t k))) ts
+type-read : (room v : ℕ) (k : TypedClause → State) (ts : List Token) → v ≤ 5
+    → run room (aClause k) (wordFrom 3 v ∷ ts) ≡ run room (sign openRound (theParts (partsUsed (v + 1) - 1) (afterParts (v + 1) k))) ts
 unfolding computing theParts partsUsed afterParts afterOne afterTwo afterThree
-type-read room zero k ts low high = absurd (omega arith)
-type-read room (suc zero) k ts low high = refl
-type-read room (suc (suc zero)) k ts low high = refl
-type-read room (suc (suc (suc zero))) k ts low high = refl
-type-read room (suc (suc (suc (suc zero)))) k ts low high = refl
-type-read room (suc (suc (suc (suc (suc zero))))) k ts low high = refl
-type-read room (suc (suc (suc (suc (suc (suc zero)))))) k ts low high = refl
-type-read room (suc (suc (suc (suc (suc (suc (suc t))))))) k ts low high = absurd (omega arith)
+type-read room zero k ts high = refl
+type-read room (suc zero) k ts high = refl
+type-read room (suc (suc zero)) k ts high = refl
+type-read room (suc (suc (suc zero))) k ts high = refl
+type-read room (suc (suc (suc (suc zero)))) k ts high = refl
+type-read room (suc (suc (suc (suc (suc zero))))) k ts high = refl
+type-read room (suc (suc (suc (suc (suc (suc v)))))) k ts high = absurd (omega arith)
 
 -- the clause of a type with these parts
 record Formed (t : ℕ) (ds : List TypedPart) : Type 0 where
@@ -316,11 +307,6 @@ formed (suc (suc (suc (suc (suc (suc zero)))))) ds low high h =
     formed-three 6 ds h (λ d e g. record { clause = triggersC d e g; parts = refl; type = refl; state = λ k. refl })
 formed (suc (suc (suc (suc (suc (suc (suc t))))))) ds low high h = absurd (omega arith)
 
--- the closing bracket gives room back
-close-read : (room : ℕ) (s : State) (ts : List Token) → run room (sign closeRound s) (plain closeRound ∷ ts) ≡ run (suc room) s ts
-unfolding computing
-close-read room s ts = refl
-
 fields-of : (role : ℕ) (c : TypedClause) (x : Draft)
     → fieldsFrom (typeNumber c) role (rootsOf (partsOf c) x) (map partMask (partsOf c)) ≡ fieldsOf role c x
 unfolding fieldsFrom fieldsOf
@@ -346,11 +332,11 @@ clause-drawn role c x count u many y v r next drafted fields more put one z draw
     }
 
 -- where the parts may be read
-pub parts-ready : {text : List ℕ} {ok : Bool} {at : ℕ} {x : List ℕ} {count : ℕ} {u : List ℕ} {many : ℕ} (word bracket : Leaf)
-    → LineReady text ok at x count u many → Leafs typeToken aClause text ok at word
+pub parts-ready : {text : List ℕ} {ok : Bool} {at : ℕ} {x : List ℕ} {count : ℕ} {u : List ℕ} {many : ℕ} {word bracket : Leaf}
+    → LineReady text ok at x count u many → Leafs (wordFrom 3) aClause text ok at word
     → Leafs (signOf openRound) (sign openRound) text (word .ok) (word .at) bracket
     → bracket .ok ≡ true → Ready text (bracket .at) x count
-parts-ready word bracket ready word-read open-read also =
+parts-ready ready word-read open-read also =
     let good = open-read .well also in
     let all = word-read .well good in
     let h₁ = word-read .onward good in
@@ -359,24 +345,26 @@ parts-ready word bracket ready word-read open-read also =
     record { area = ready .nodes-area; inside = open-read .within also; taken = omega arith }
 
 -- the type's word, an opening bracket, the parts and a closing bracket
-module _ (role : ℕ) (text : List ℕ) (ok : Bool) (at : ℕ) (x : List ℕ) (count : ℕ) (y : List ℕ) (word bracket : Leaf) (q : GotParts) (close : Leaf)
-    (word-read : Leafs typeToken aClause text ok at word) (known : TypeNumber word)
+module _ {role : ℕ} {text : List ℕ} {ok : Bool} {at : ℕ} {x : List ℕ} {count : ℕ} {y : List ℕ} {word bracket : Leaf} {q : GotParts} {close : Leaf}
+    (word-read : Leafs (wordFrom 3) aClause text ok at word) (known : word .value ≤ 5) {used : ℕ} (is-used : used ≡ partsUsed (word .value + 1))
     (open-read : Leafs (signOf openRound) (sign openRound) text (word .ok) (word .at) bracket)
-    (read : PartsRead (partsUsed (word .value) - 1) 31 (word .value) role text (bracket .ok) (bracket .at) x count y q)
+    (read : PartsRead (used - 1) 31 (word .value + 1) role text (bracket .ok) (bracket .at) x count y q)
     (closed : Leafs (signOf closeRound) (sign closeRound) text (q .ok) (q .at) close) where
   type : ℕ
-  type = word .value
+  type = word .value + 1
 
   -- the parts and what comes after them
   inside : (TypedClause → State) → State
-  inside k = theParts (partsUsed type - 1) (afterParts type k)
+  inside k = theParts (used - 1) (afterParts type k)
 
   to-open : word .ok ≡ true → (k : TypedClause → State)
       → answer (run 32 (aClause k) (ahead text at)) ≡ answer (run 32 (sign openRound (inside k)) (ahead text (word .at)))
   unfolding type inside
   to-open good k =
       ap (λ (ts : List Token). answer (run 32 (aClause k) ts)) (word-read .next good)
-      ∙ ap answer (type-read 32 type k (ahead text (word .at)) (known .low) (known .high))
+      ∙ ap answer
+      (type-read 32 (word .value) k (ahead text (word .at)) known
+      ∙ ap (λ used. run 32 (sign openRound (theParts (used - 1) (afterParts type k))) (ahead text (word .at))) (sym is-used))
 
   to-parts : word .ok ≡ true → bracket .ok ≡ true → (k : TypedClause → State)
       → answer (run 32 (aClause k) (ahead text at)) ≡ answer (run 31 (inside k) (ahead text (bracket .at)))
@@ -405,9 +393,9 @@ module _ (role : ℕ) (text : List ℕ) (ok : Bool) (at : ℕ) (x : List ℕ) (c
         ]
       ]
 
-  pub clause-unread : (u : List ℕ) (many : ℕ) (v : List ℕ) (r : GotClause) → close .ok ≡ false → r .ok ≡ false
+  pub clause-unread : {u : List ℕ} {many : ℕ} {v : List ℕ} {r : GotClause} → close .ok ≡ false → r .ok ≡ false
       → LineRead aClause hasClause (putTyped role) text ok at x count u many y v r
-  clause-unread u many v r final unread =
+  clause-unread final unread =
       record {
         well = λ good. absurd (true≢false (sym good ∙ unread));
         took = λ good. absurd (true≢false (sym good ∙ unread));
@@ -432,17 +420,17 @@ module _ (role : ℕ) (text : List ℕ) (ok : Bool) (at : ℕ) (x : List ℕ) (c
       let h₄ = closed .onward final in
       (omega arith, closed .within final)
 
-  pub clause-read : (u : List ℕ) (many : ℕ) (v : List ℕ) (next : ℕ) → close .ok ≡ true
+  pub clause-read : {u : List ℕ} {many : ℕ} {v : List ℕ} {next : ℕ} → close .ok ≡ true
       → draft v next ≡ putClause (q .fields) (draft u many)
       → LineRead aClause hasClause (putTyped role) text ok at x count u many y v
       (record { ok = true; at = close .at; count = q .count; many = next })
   unfolding type
-  clause-read u many v next final put =
+  clause-read {u = u} {many = many} {v = v} {next = next} final put =
       let done = closed .well final in
       let also = read .well done in
       let good = open-read .well also in
       let ds = read .took done in
-      let f = formed type (ds .trees) (known .low) (known .high) (ds .as-many) in
+      let f = formed type (ds .trees) (omega arith) (omega arith) (ds .as-many ∙ ap (λ used. suc (used - 1)) is-used) in
       let h₁ = word-read .onward good in
       let h₂ = open-read .onward also in
       let h₃ = ds .taken in
@@ -456,7 +444,7 @@ module _ (role : ℕ) (text : List ℕ) (ok : Bool) (at : ℕ) (x : List ℕ) (c
               goes = λ k.
                   to-close good also done k
                   ∙ ap (λ (ts : List Token). answer (run 31 (sign closeRound (afterParts type k (ds .trees))) ts)) (closed .next final)
-                  ∙ ap answer (close-read 31 (afterParts type k (ds .trees)) (ahead text (close .at)))
+                  ∙ ap answer (close-run 31 (afterParts type k (ds .trees)) (ahead text (close .at)))
                   ∙ ap (λ (s : State). answer (run 32 s (ahead text (close .at)))) (f .state k);
               drawn =
                   clause-drawn role (f .clause) x count u many y v q next
@@ -476,51 +464,9 @@ module _ (role : ℕ) (text : List ℕ) (ok : Bool) (at : ℕ) (x : List ℕ) (c
       }
 
 -- ---- the word of a type
-module _ (text : List ℕ) (at : ℕ) (r : Lexed) (n : ℕ) (next : Next text at r) (e : n ≡ plainNumber (r .token)) where
-  -- a word or sign with this number is next
-  pub plain-next : n ≤ 36 → (ahead text at ≡ plain n ∷ ahead text (r .at)) × (at < r .at)
-  unfolding meant isEnd
-  plain-next h = rw e (go (r .token) refl (omega arith))
-    where
-      go : (t : Lexeme) → r .token ≡ t → plainNumber t ≤ 36 → (ahead text at ≡ plain (plainNumber t) ∷ ahead text (r .at)) × (at < r .at)
-      go (Plain m) is h = let told = token-told text at r next (Plain m) is refl in (told .0, told .1)
-      go (Signal k) is h = absurd (omega arith)
-      go (Name u) is h = absurd (omega arith)
-      go (Number m) is h = absurd (omega arith)
-      go Outside is h = absurd (omega arith)
-      go End is h = absurd (omega arith)
-
-  -- a state that goes on with no other token is stuck
-  pub plain-stuck : (room : ℕ) (s : State) → (ahead text at ≡ [] → answer s ≡ none)
-      → (step s (plain n) ≡ failed) → ((k : ℕ) → step s (signalled k) ≡ failed) → ((u : ℕ) → step s (named u) ≡ failed)
-      → ((m : ℕ) → step s (number m) ≡ failed) → step s outside ≡ failed
-      → answer (run room s (ahead text at)) ≡ none
-  unfolding meant isEnd run
-  plain-stuck room s end h₁ h₂ h₃ h₄ h₅ = go (r .token) refl
-    where
-      stuck : (t : Token) → ahead text at ≡ t ∷ ahead text (r .at) → step s t ≡ failed → answer (run room s (ahead text at)) ≡ none
-      stuck t is fails = ap (λ (ts : List Token). answer (run room s ts)) is ∙ stuck-none room s t (ahead text (r .at)) fails
-
-      go : (t : Lexeme) → r .token ≡ t → answer (run room s (ahead text at)) ≡ none
-      go (Plain m) is = stuck (plain m) (token-told text at r next (Plain m) is refl .0) (rw (sym (e ∙ ap plainNumber is)) h₁)
-      go (Signal k) is = stuck (signalled k) (token-told text at r next (Signal k) is refl .0) (h₂ k)
-      go (Name u) is = stuck (named u) (token-told text at r next (Name u) is refl .0) (h₃ u)
-      go (Number m) is = stuck (number m) (token-told text at r next (Number m) is refl .0) (h₄ m)
-      go Outside is = stuck outside (token-told text at r next Outside is refl .0) h₅
-      go End is =
-          let none-left = end-told text at r next (ap isEnd is) .0 in
-          ap (λ (ts : List Token). answer (run room s ts)) none-left ∙ end none-left
-
--- a number outside a range
-pub apart : (low high n m : ℕ) → leb low n && leb n high ≡ false → low ≤ m → m ≤ high → eqb n m ≡ false
-apart low high n m e p q =
-    ne-eqb n m
-    (λ same. true≢false (sym (and-intro (leb low m) (leb m high) (le-leb low m p) (le-leb m high q)) ∙ ap
-    (λ (k : ℕ). leb low k && leb k high) (sym same) ∙ e))
-
-no-type : (n : ℕ) (k : TypedClause → State) → leb 3 n && leb n 8 ≡ false → step (aClause k) (plain n) ≡ failed
-unfolding computing
-no-type n k e =
+no-type : (k : TypedClause → State) (t : Token) → isWord 3 8 t ≡ false → step (aClause k) t ≡ failed
+unfolding computing isWord
+no-type k (plain n) e =
     rw (
       apart 3 8 n 3 e (omega arith) (omega arith),
       apart 3 8 n 4 e (omega arith) (omega arith),
@@ -529,46 +475,11 @@ no-type n k e =
       apart 3 8 n 7 e (omega arith) (omega arith),
       apart 3 8 n 8 e (omega arith) (omega arith),
     )
+no-type k (signalled i) e = refl
+no-type k (named u) e = refl
+no-type k (number n) e = refl
+no-type k outside e = refl
 
-module _ (text : List ℕ) (ok : Bool) (at : ℕ) (r : Lexed) (n : ℕ) (next : Next text at r) (e : n ≡ plainNumber (r .token)) where
-  pub type-low : ok && (leb 3 n && leb n 8) ≡ true → 3 ≤ n
-  type-low h = leb-true 3 n (and-left (leb 3 n) (leb n 8) (and-right ok (leb 3 n && leb n 8) h))
-
-  pub type-found : ok && (leb 3 n && leb n 8) ≡ true
-      → Leafs typeToken aClause text ok at (record { ok = true; at = r .at; value = n - 2 })
-      × TypeNumber (record { ok = true; at = r .at; value = n - 2 })
-  type-found h =
-      let range = and-right ok (leb 3 n && leb n 8) h in
-      let low = leb-true 3 n (and-left (leb 3 n) (leb n 8) range) in
-      let high = leb-true n 8 (and-right (leb 3 n) (leb n 8) range) in
-      let told = plain-next text at r n next e (omega arith) in
-      let same : n ≡ 2 + (n - 2) = omega arith in (
-        record {
-          well = λ _. and-left ok (leb 3 n && leb n 8) h;
-          next = λ _. told .0 ∙ ap (λ (m : ℕ). plain m ∷ ahead text (r .at)) same;
-          small = λ _. omega arith;
-          onward = λ _. told .1;
-          within = λ _. next .within;
-          fails = λ _ bad. absurd (true≢false bad);
-        },
-        record { low = omega arith; high = omega arith },
-      )
-
-  pub type-absent : ok && (leb 3 n && leb n 8) ≡ false
-      → Leafs typeToken aClause text ok at (record { ok = false; at = at; value = 1 })
-      × TypeNumber (record { ok = false; at = at; value = 1 })
-  unfolding computing
-  type-absent h = (
-    record {
-      well = λ good. absurd (true≢false (sym good));
-      next = λ good. absurd (true≢false (sym good));
-      small = λ good. absurd (true≢false (sym good));
-      onward = λ good. absurd (true≢false (sym good));
-      within = λ good. absurd (true≢false (sym good));
-      fails = λ all _ room k.
-          plain-stuck text at r n next e room (aClause k) (λ _. refl)
-          (no-type n k (ap (λ (b : Bool). b && (leb 3 n && leb n 8)) (sym all) ∙ h))
-          (λ _. refl) (λ _. refl) (λ _. refl) refl;
-    },
-    record { low = omega arith; high = omega arith },
-  )
+pub type-leafs : {text : List ℕ} {ok : Bool} {at : ℕ} {r : Leaf} → WordRead 3 8 text ok at r → Leafs (wordFrom 3) aClause text ok at r
+unfolding computing
+type-leafs = word-leafs (wordFrom 3) aClause (λ v h. refl) (λ _ k. refl) no-type

@@ -1,38 +1,37 @@
 -- Laws of reading lines: the word of a role, a line, lines to the end of the text, and the whole text.
 use Prim.Native.Nat.{ℕ, zero, suc, _+_, _-_, _≤_}
-use mathlib.Core.Bool.{Bool, true, false, true≢false, _&&_}
+use mathlib.Core.Bool.{Bool, true, false, true≢false}
 use mathlib.Core.List.{List, [], _∷_, _++_}
 use mathlib.Core.Logic.{inl, inr}
 use mathlib.Core.Option.{none}
 use mathlib.Core.Path.{_≡_, refl, sym, ap, _∙_}
 use native.Mathlib.Omega.{arith}
-use borrow.Author.Tests.{leb-true}
-use lib.Dec.{leb}
+use borrow.Author.Tests.{eq-eqb, ne-eqb}
+use lib.Dec.{eqb}
 use lib.ListN.{length}
-use Rattle.semantics.proofs.Tests.{test, and-left, and-right}
-use Rattle.grammar.specs.Token.{Token, plain, number, lineEnd, tokens}
+use Rattle.semantics.proofs.Tests.{test}
+use Rattle.grammar.specs.Token.{Token, plain, signalled, named, number, outside, lineEnd, tokens}
 use Rattle.grammar.specs.Tree.{TypedClause, Line, assumeL, requireL}
 use Rattle.grammar.specs.Reader.{State, failed, sign, aNumber, aClause, atLine, step, run, start, answer, parse}
 use Rattle.grammar.proofs.Said.{computing}
-use Rattle.lexer.specs.declared.Lexed.{Lexed}
-use Rattle.lexer.specs.Lexed.{Next, isEnd, leads}
 use Rattle.typed.specs.Draft.{Sketch, putTyped, putLine, putLines}
-use Rattle.formulas.specs.declared.leaf.Leaf.{Leaf}
+use Rattle.propositions.specs.declared.leaf.Leaf.{Leaf}
+use Rattle.propositions.specs.declared.leaf.Lexeme.{Lexeme}
+use Rattle.propositions.specs.Lexemes.{Lexes, isWord, wordFrom, WordRead}
+use Rattle.propositions.proofs.Leaves.{apart, word-leafs}
+use Rattle.propositions.proofs.Steps.{sign-run, number-run}
 use Rattle.text.specs.declared.clause.GotClause.{GotClause}
 use Rattle.text.specs.declared.sheet.GotLines.{GotLines}
-use Rattle.formulas.specs.Reads.{ahead, signOf, Leafs}
-use Rattle.text.specs.Parts.{plainNumber, finished, roleToken, Before, aLineAfter, hasLine, hasClause, Drawn, LineReady, LineTook, LineRead, LinesRead, SheetRead}
-use Rattle.text.proofs.Parts.{sign-read}
-use Rattle.text.proofs.Clauses.{plain-next, plain-stuck, apart}
+use Rattle.propositions.specs.Reads.{ahead, signOf, Leafs}
+use Rattle.text.specs.Parts.{finished, Before, aLineAfter, hasLine, hasClause, Drawn, LineReady, LineTook, LineRead, LinesRead, SheetRead}
 
 -- ---- the end of the text
-pub end-next : (text : List ℕ) (at : ℕ) (r : Lexed) (b : Bool) → Next text at r → b ≡ isEnd (r .token) → b ≡ finished (ahead text at)
-unfolding leads finished
-end-next text at r b next e = e ∙ go (isEnd (r .token)) refl
-  where
-    go : (b : Bool) → isEnd (r .token) ≡ b → b ≡ finished (ahead text at)
-    go true is = sym (ap finished (next .read) ∙ rw is)
-    go false is = sym (ap finished (next .read) ∙ rw is)
+pub end-next : {text : List ℕ} {at : ℕ} {r : Lexeme} → Lexes text true at r → eqb (r .tag) 5 ≡ finished (ahead text at)
+unfolding finished
+end-next {r = r} lexes = elim (lexes .told refl) [
+  | inl there ↦ ne-eqb (r .tag) 5 (λ same. let small = there .1 in omega arith) ∙ ap finished (sym (there .0))
+  | inr end ↦ eq-eqb (r .tag) 5 (end .1) ∙ ap finished (sym (end .0))
+]
 
 none-left : (ts : List Token) → finished ts ≡ true → ts ≡ []
 unfolding finished
@@ -49,54 +48,25 @@ rest : ℕ → Before → TypedClause → State
 rest role b c = sign lineEnd (hasLine b (roleLine role c))
 
 role-read : (role : ℕ) (b : Before) (ts : List Token) → role ≤ 1
-    → run 32 (aLineAfter b) (roleToken role ∷ ts) ≡ run 32 (aClause (rest role b)) ts
+    → run 32 (aLineAfter b) (wordFrom 1 role ∷ ts) ≡ run 32 (aClause (rest role b)) ts
 unfolding computing rest roleLine
 role-read zero b ts h = refl
 role-read (suc zero) b ts h = refl
 role-read (suc (suc role)) b ts h = absurd (omega arith)
 
-no-role : (n : ℕ) (b : Before) → leb 1 n && leb n 2 ≡ false → step (aLineAfter b) (plain n) ≡ failed
-unfolding computing
-no-role n b e = rw (apart 1 2 n 1 e (omega arith) (omega arith), apart 1 2 n 2 e (omega arith) (omega arith))
+no-role : (b : Before) (t : Token) → isWord 1 2 t ≡ false → step (aLineAfter b) t ≡ failed
+unfolding computing isWord
+no-role b (plain n) e = rw (apart 1 2 n 1 e (omega arith) (omega arith), apart 1 2 n 2 e (omega arith) (omega arith))
+no-role b (signalled i) e = refl
+no-role b (named u) e = refl
+no-role b (number n) e = refl
+no-role b outside e = refl
 
-module _ (text : List ℕ) (at : ℕ) (r : Lexed) (n : ℕ) (next : Next text at r) (e : n ≡ plainNumber (r .token)) where
-  pub role-low : leb 1 n && leb n 2 ≡ true → 1 ≤ n
-  role-low h = leb-true 1 n (and-left (leb 1 n) (leb n 2) h)
-
-  pub role-found : leb 1 n && leb n 2 ≡ true
-      → Leafs roleToken aLineAfter text true at (record { ok = true; at = r .at; value = n - 1 }) × (n - 1 ≤ 1)
-  role-found h =
-      let low = role-low h in
-      let high = leb-true n 2 (and-right (leb 1 n) (leb n 2) h) in
-      let told = plain-next text at r n next e (omega arith) in
-      let same : n ≡ 1 + (n - 1) = omega arith in (
-        record {
-          well = λ _. refl;
-          next = λ _. told .0 ∙ ap (λ (m : ℕ). plain m ∷ ahead text (r .at)) same;
-          small = λ _. omega arith;
-          onward = λ _. told .1;
-          within = λ _. next .within;
-          fails = λ _ bad. absurd (true≢false bad);
-        },
-        omega arith,
-      )
-
-  pub role-absent : finished (ahead text at) ≡ false → leb 1 n && leb n 2 ≡ false
-      → Leafs roleToken aLineAfter text true at (record { ok = false; at = at; value = 0 }) × (0 ≤ 1)
-  unfolding computing finished
-  role-absent left h = (
-    record {
-      well = λ good. absurd (true≢false (sym good));
-      next = λ good. absurd (true≢false (sym good));
-      small = λ good. absurd (true≢false (sym good));
-      onward = λ good. absurd (true≢false (sym good));
-      within = λ good. absurd (true≢false (sym good));
-      fails = λ all _ room b.
-          plain-stuck text at r n next e room (aLineAfter b) (λ nothing. absurd (true≢false (ap finished (sym nothing) ∙ left)))
-          (no-role n b h) (λ _. refl) (λ _. refl) (λ _. refl) refl;
-    },
-    omega arith,
-  )
+pub role-leafs : {text : List ℕ} {at : ℕ} {r : Leaf} → finished (ahead text at) ≡ false → WordRead 1 2 text true at r
+    → Leafs (wordFrom 1) aLineAfter text true at r
+unfolding finished
+role-leafs left =
+    word-leafs (wordFrom 1) aLineAfter (λ v h. refl) (λ end b. absurd (true≢false (ap finished (sym end) ∙ left))) no-role
 
 -- ---- a line
 put-line : (role : ℕ) (c : TypedClause) (z : Sketch) → role ≤ 1 → putTyped role c z ≡ putLine (roleLine role c) z
@@ -107,7 +77,7 @@ put-line (suc (suc role)) c z h = absurd (omega arith)
 
 -- where the clause of a line may be read
 pub clause-ready : {text : List ℕ} {at : ℕ} {x : List ℕ} {count : ℕ} {u : List ℕ} {many : ℕ} (word : Leaf)
-    → LineReady text true at x count u many → Leafs roleToken aLineAfter text true at word
+    → LineReady text true at x count u many → Leafs (wordFrom 1) aLineAfter text true at word
     → LineReady text (word .ok) (word .at) x count u many
 clause-ready word ready word-read =
     let h₁ = ready .nodes-taken refl in
@@ -122,7 +92,7 @@ clause-ready word ready word-read =
 
 -- a role, a clause and the end of the line
 module _ (text : List ℕ) (at : ℕ) (x : List ℕ) (count : ℕ) (u : List ℕ) (many : ℕ) (y v : List ℕ) (word : Leaf) (said : GotClause) (end : Leaf)
-    (word-read : Leafs roleToken aLineAfter text true at word) (known : word .value ≤ 1)
+    (word-read : Leafs (wordFrom 1) aLineAfter text true at word) (known : word .value ≤ 1)
     (read : LineRead aClause hasClause (putTyped (word .value)) text (word .ok) (word .at) x count u many y v said)
     (ended : Leafs (signOf lineEnd) (sign lineEnd) text (said .ok) (said .at) end) where
   role : ℕ
@@ -169,7 +139,7 @@ module _ (text : List ℕ) (at : ℕ) (x : List ℕ) (count : ℕ) (u : List ℕ
         goes = λ b.
             to-end good done b
             ∙ ap (λ (ts : List Token). answer (run 32 (sign lineEnd (hasLine b l)) ts)) (ended .next final)
-            ∙ ap answer (sign-read 32 lineEnd (hasLine b l) (ahead text (end .at)) refl refl);
+            ∙ ap answer (sign-run lineEnd 32 (hasLine b l) (ahead text (end .at)) (λ e. omega arith) (λ e. omega arith));
         drawn = λ z drawn. rw (put-line role (c .tree) z known) at (c .drawn z drawn);
         onward = omega arith;
         within = ended .within final;
@@ -275,10 +245,6 @@ lines-ready end nodes clauses ended =
     }
 
 -- ---- the whole text
-number-read : (n : ℕ) (k : ℕ → State) (ts : List Token) → run 32 (aNumber k) (number n ∷ ts) ≡ run 32 (k n) ts
-unfolding computing
-number-read n k ts = refl
-
 module _ (text x u y v : List ℕ) (s m end : Leaf) (said : GotLines)
     (s-read : Leafs number aNumber text true 0 s)
     (m-read : Leafs number aNumber text (s .ok) (s .at) m)
@@ -288,21 +254,21 @@ module _ (text x u y v : List ℕ) (s m end : Leaf) (said : GotLines)
   unfolding parse start
   to-second good =
       ap (λ (ts : List Token). answer (run 32 start ts)) (s-read .next good)
-      ∙ ap answer (number-read (s .value) (λ s. aNumber (λ m. sign lineEnd (atLine s m []))) (ahead text (s .at)))
+      ∙ ap answer (number-run 32 (s .value) (λ s. aNumber (λ m. sign lineEnd (atLine s m []))) (ahead text (s .at)))
 
   to-line-end : s .ok ≡ true → m .ok ≡ true → parse 32 (tokens text) ≡ answer
       (run 32 (sign lineEnd (atLine (s .value) (m .value) [])) (ahead text (m .at)))
   to-line-end good also =
       to-second good
       ∙ ap (λ (ts : List Token). answer (run 32 (aNumber (λ m. sign lineEnd (atLine (s .value) m []))) ts)) (m-read .next also)
-      ∙ ap answer (number-read (m .value) (λ m. sign lineEnd (atLine (s .value) m [])) (ahead text (m .at)))
+      ∙ ap answer (number-run 32 (m .value) (λ m. sign lineEnd (atLine (s .value) m [])) (ahead text (m .at)))
 
   to-lines : s .ok ≡ true → m .ok ≡ true → end .ok ≡ true
       → parse 32 (tokens text) ≡ answer (run 32 (atLine (s .value) (m .value) []) (ahead text (end .at)))
   to-lines good also done =
       to-line-end good also
       ∙ ap (λ (ts : List Token). answer (run 32 (sign lineEnd (atLine (s .value) (m .value) [])) ts)) (ended .next done)
-      ∙ ap answer (sign-read 32 lineEnd (atLine (s .value) (m .value) []) (ahead text (end .at)) refl refl)
+      ∙ ap answer (sign-run lineEnd 32 (atLine (s .value) (m .value) []) (ahead text (end .at)) (λ e. omega arith) (λ e. omega arith))
 
   sheet-fails : said .ok ≡ false → parse 32 (tokens text) ≡ none
   unfolding parse start

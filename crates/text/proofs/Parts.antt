@@ -6,8 +6,8 @@ use mathlib.Core.Logic.{inl, inr}
 use mathlib.Core.Option.{none}
 use mathlib.Core.Path.{_≡_, refl, sym, ap, _∙_}
 use native.Mathlib.Omega.{arith}
-use borrow.Author.Tests.{lt-ltb, eq-eqb}
-use lib.Dec.{ltb, eqb}
+use borrow.Author.Tests.{lt-ltb}
+use lib.Dec.{ltb}
 use lib.ListN.{length}
 use Rattle.semantics.specs.Proposition.{bit}
 use Rattle.semantics.proofs.Tests.{test, and-intro, and-left, and-right}
@@ -16,62 +16,18 @@ use Rattle.grammar.specs.Token.{Token, plain, signalled, named, number, outside
 use Rattle.grammar.specs.Tree.{OrF, TypedPart}
 use Rattle.grammar.specs.Spelled.{isAmong}
 use Rattle.grammar.specs.Small.{smallNames}
-use Rattle.grammar.specs.Reader.{State, failed, sign, aboutPart, run, answer}
+use Rattle.grammar.specs.Reader.{State, failed, sign, aName, aboutPart, run, answer}
 use Rattle.grammar.proofs.Said.{computing}
 use Rattle.grammar.proofs.Room.{failed-none}
-use Rattle.lexer.specs.declared.Lexed.{Lexed}
-use Rattle.lexer.specs.declared.Token.{Token as Lexeme}
-use Rattle.lexer.specs.declared.Token.the-variants.{Plain, Signal, Name, Number, Outside, End}
-use Rattle.lexer.specs.Lexed.{Next, isEnd, meant}
-use Rattle.lexer.proofs.Read.{token-told, end-told}
 use Rattle.typed.specs.Draft.{maskOf, putPart, putOrF, partMask}
 use Rattle.typed.proofs.Clauses.{mask-bit, mask-next}
-use Rattle.formulas.specs.declared.Got.{Got}
-use Rattle.formulas.specs.declared.leaf.Leaf.{Leaf}
+use Rattle.propositions.specs.declared.Got.{Got}
+use Rattle.propositions.specs.declared.leaf.Leaf.{Leaf}
+use Rattle.propositions.proofs.Leaves.{no-name}
+use Rattle.propositions.proofs.Steps.{sign-run}
 use Rattle.text.specs.declared.part.GotPart.{GotPart}
-use Rattle.formulas.specs.Reads.{ahead, signOf, Leafs, Reads, Then, beforeF, after}
-use Rattle.text.specs.Parts.{nameNumber, namedNext, NamePeeked, someNames, aPart, NamesRead, PartTook, PartRead}
-
--- ---- a name that is next
--- 3 stands for every other token
-none-peeked : (text : List ℕ) (at to : ℕ) → to ≤ length text → namedNext (ahead text at) ≡ false
-    → NamePeeked text at (record { ok = ltb 3 3; at = to; value = 3 })
-none-peeked text at to within absent =
-    record {
-      there = λ good. absurd (true≢false (sym good));
-      small = λ good. absurd (true≢false (sym good));
-      onward = λ good. absurd (true≢false (sym good));
-      within = within;
-      absent = λ _. absent;
-    }
-
-token-peeked : (text : List ℕ) (at : ℕ) (r : Lexed) (t : Lexeme) → Next text at r → r .token ≡ t
-    → NamePeeked text at (record { ok = ltb (nameNumber t) 3; at = r .at; value = nameNumber t })
-unfolding namedNext meant isEnd
-token-peeked text at r (Name u) next e =
-    let told = token-told text at r next (Name u) e refl in
-    let small = told .2 in
-    record {
-      there = λ _. told .0;
-      small = λ _. small;
-      onward = λ _. told .1;
-      within = next .within;
-      absent = λ bad. absurd (true≢false (sym (lt-ltb u 3 small) ∙ bad));
-    }
-token-peeked text at r (Plain n) next e =
-    none-peeked text at (r .at) (next .within) (ap namedNext (token-told text at r next (Plain n) e refl .0))
-token-peeked text at r (Signal k) next e =
-    none-peeked text at (r .at) (next .within) (ap namedNext (token-told text at r next (Signal k) e refl .0))
-token-peeked text at r (Number n) next e =
-    none-peeked text at (r .at) (next .within) (ap namedNext (token-told text at r next (Number n) e refl .0))
-token-peeked text at r Outside next e =
-    none-peeked text at (r .at) (next .within) (ap namedNext (token-told text at r next Outside e refl .0))
-token-peeked text at r End next e =
-    none-peeked text at (r .at) (next .within) (ap namedNext (end-told text at r next (ap isEnd e) .0))
-
-pub name-peeked : (text : List ℕ) (at : ℕ) (r : Lexed) (v : ℕ) → Next text at r → v ≡ nameNumber (r .token)
-    → NamePeeked text at (record { ok = ltb v 3; at = r .at; value = v })
-name-peeked text at r v next e = rw e (token-peeked text at r (r .token) next refl)
+use Rattle.propositions.specs.Reads.{ahead, signOf, Leafs, Reads, Then, beforeF, after}
+use Rattle.text.specs.Parts.{someNames, aPart, NamesRead, PartTook, PartRead}
 
 -- ---- names one after another
 -- those read from `at` up to `here`
@@ -90,15 +46,15 @@ no-names text at =
     record { names = []; goes = λ room n s. refl; masked = refl; small = refl; onward = omega arith; within = λ h. h }
 
 -- after the names comes a sign
-names-end : (room n : ℕ) (s : List ℕ → State) (us : List ℕ) (ts : List Token) → namedNext ts ≡ false
+names-end : (room n : ℕ) (s : List ℕ → State) (us : List ℕ) (ts : List Token) → ((u : ℕ) (rest : List Token) → ts ≡ named u ∷ rest → ⊥)
     → answer (run room (someNames n s us) ts) ≡ answer (run room (sign n (s us)) ts)
-unfolding computing namedNext
-names-end room n s us [] e = refl
-names-end room n s us (plain m ∷ ts) e = refl
-names-end room n s us (signalled k ∷ ts) e = refl
-names-end room n s us (named u ∷ ts) e = absurd (true≢false e)
-names-end room n s us (number m ∷ ts) e = refl
-names-end room n s us (outside ∷ ts) e = refl
+unfolding computing
+names-end room n s us [] absent = refl
+names-end room n s us (plain m ∷ ts) absent = refl
+names-end room n s us (signalled k ∷ ts) absent = refl
+names-end room n s us (named u ∷ ts) absent = absurd (absent u ts refl)
+names-end room n s us (number m ∷ ts) absent = refl
+names-end room n s us (outside ∷ ts) absent = refl
 
 -- a name is read where it is not among them, and fails where it is
 name-read : (room n : ℕ) (s : List ℕ → State) (us : List ℕ) (u : ℕ) (ts : List Token) (b : Bool) → isAmong u us ≡ b
@@ -113,7 +69,7 @@ small-more (v ∷ us) u e h =
     and-intro (ltb v 3) (smallNames (us ++ u ∷ [])) (and-left (ltb v 3) (smallNames us) e)
     (small-more us u (and-right (ltb v 3) (smallNames us) e) h)
 
-module _ (text : List ℕ) (at mask here : ℕ) (far : SoFar text at mask here) (r : Leaf) (peeked : NamePeeked text here r) where
+module _ (text : List ℕ) (at mask here : ℕ) (far : SoFar text at mask here) (r : Leaf) (name : Leafs named aName text true here r) where
   -- whether the next name is among them
   among : r .ok ≡ true → (b : Bool) → b ≡ bit mask (r .value) → isAmong (r .value) (far .names) ≡ b
   among good b e =
@@ -122,18 +78,18 @@ module _ (text : List ℕ) (at mask here : ℕ) (far : SoFar text at mask here) 
   pub one-more : r .ok ≡ true → (b : Bool) → b ≡ bit mask (r .value) → b ≡ false
       → (next : ℕ) → next ≡ joint mask (nameMask (r .value)) → SoFar text at next (r .at)
   one-more good b e new next is =
-      let h = peeked .onward good in
+      let h = name .onward good in
       let more = far .onward in
       record {
         names = far .names ++ r .value ∷ [];
         goes = λ room n s.
             far .goes room n s
-            ∙ ap (λ (ts : List Token). answer (run room (someNames n s (far .names)) ts)) (peeked .there good)
+            ∙ ap (λ (ts : List Token). answer (run room (someNames n s (far .names)) ts)) (name .next good)
             ∙ ap answer (name-read room n s (far .names) (r .value) (ahead text (r .at)) false (among good b e ∙ new));
         masked = is ∙ ap (λ (m : ℕ). joint m (nameMask (r .value))) (far .masked) ∙ sym (mask-next (far .names) (r .value));
-        small = small-more (far .names) (r .value) (far .small) (peeked .small good);
+        small = small-more (far .names) (r .value) (far .small) (name .small good);
         onward = omega arith;
-        within = λ _. peeked .within;
+        within = λ _. name .within good;
       }
 
   -- one stands twice
@@ -141,7 +97,7 @@ module _ (text : List ℕ) (at mask here : ℕ) (far : SoFar text at mask here) 
       → (room n : ℕ) (s : List ℕ → State) → answer (run room (someNames n s []) (ahead text at)) ≡ none
   twice good b e old room n s =
       far .goes room n s
-      ∙ ap (λ (ts : List Token). answer (run room (someNames n s (far .names)) ts)) (peeked .there good)
+      ∙ ap (λ (ts : List Token). answer (run room (someNames n s (far .names)) ts)) (name .next good)
       ∙ ap answer (name-read room n s (far .names) (r .value) (ahead text (r .at)) true (among good b e ∙ old))
       ∙ failed-none room (ahead text (r .at))
 
@@ -153,7 +109,7 @@ module _ (text : List ℕ) (at mask here : ℕ) (far : SoFar text at mask here) 
         took = λ _.
             record {
               names = far .names;
-              goes = λ room n s. far .goes room n s ∙ names-end room n s (far .names) (ahead text here) (peeked .absent bad);
+              goes = λ room n s. far .goes room n s ∙ names-end room n s (far .names) (ahead text here) (no-name name bad);
               mask = far .masked;
               onward = far .onward;
               within = far .within;
@@ -168,11 +124,6 @@ twice-read text ok at to mask fails =
     record { well = λ good. absurd (true≢false (sym good)); took = λ good. absurd (true≢false (sym good)); fails = λ _ _. fails }
 
 -- ---- a part
--- a sign that takes no room and gives none
-pub sign-read : (room n : ℕ) (s : State) (ts : List Token) → eqb n 22 ≡ false → eqb n 23 ≡ false → run room (sign n s) (plain n ∷ ts) ≡ run room s ts
-unfolding computing
-sign-read room n s ts o c = rw (o, c, eq-eqb n n refl)
-
 pub part-unread : (room : ℕ) (text : List ℕ) (ok : Bool) (at : ℕ) (x : List ℕ) (count : ℕ) (y : List ℕ) (r : GotPart)
     → ok ≡ false → r .ok ≡ false → PartRead room text ok at x count y r
 part-unread room text ok at x count y r bad unread =
@@ -209,7 +160,7 @@ module _ (room : ℕ) (text : List ℕ) (at : ℕ) (x : List ℕ) (count : ℕ) 
   to-names good also n s =
       to-colon good n s
       ∙ ap (λ (ts : List Token). answer (run room (sign colonSign (rest n s (read .took good .tree))) ts)) (coloned .next also)
-      ∙ ap answer (sign-read room colonSign (rest n s (read .took good .tree)) (ahead text (colon .at)) refl refl)
+      ∙ ap answer (sign-run colonSign room (rest n s (read .took good .tree)) (ahead text (colon .at)) (λ e. omega arith) (λ e. omega arith))
 
   part-took : listed .ok ≡ true → PartTook room text at x count y result
   unfolding result rest putPart partMask

@@ -8,20 +8,22 @@ use mathlib.Core.Path.{_≡_, refl, sym, ap, ap₂, _∙_}
 use native.Mathlib.Omega.{arith}
 use borrow.Author.Tests.{eqb-true, eqb-false, eq-eqb, ne-eqb, ltb-false, lt-ltb, le-ltb}
 use lib.Dec.{eqb, ltb}
-use lib.ListN.{length, take, replicate}
+use lib.ListN.{length, take, drop, replicate, length-append, length-drop}
+use lib.Seq.{drop-at}
 use Rattle.semantics.specs.Proposition.{Trace}
 use Rattle.semantics.specs.Clause.{Part}
 use Rattle.semantics.specs.Verdict.{requirement, verdict}
 use Rattle.semantics.proofs.Tests.{test}
 use Rattle.stored.specs.declared.SheetAnswer.{SheetAnswer}
-use Rattle.stored.specs.declared.SheetAnswer.the-variants.{Accepted}
-use Rattle.stored.specs.Layout.{leastOutput, mostNodes, mostClauses}
-use Rattle.stored.specs.Sheet.{headerOf, nodesOf, clausesOf, requirementOf, sheetRefusal, sheetAnswer, sheetNumber}
+use Rattle.stored.specs.declared.WriteAnswer.{WriteAnswer}
+use Rattle.stored.specs.declared.WriteAnswer.the-variants.{Written, Refused}
+use Rattle.stored.specs.Layout.{clausesEnd, leastOutput, mostNodes, mostClauses}
+use Rattle.stored.specs.Sheet.{nodesOf, clausesOf, requirementOf, sheetRefusal, sheetAnswer, sheetNumber}
 use Rattle.stored.specs.Clause.{partOf}
-use Rattle.stored.specs.Tree.{pick}
+use Rattle.stored.proofs.Accepted.{opened, sheet-number, sheet-small}
 use Rattle.grammar.specs.Token.{tokens}
 use Rattle.grammar.specs.Tree.{TypedSheet}
-use Rattle.grammar.specs.Spelled.{Says}
+use Rattle.grammar.specs.Spelled.{endsLine, Says}
 use Rattle.grammar.specs.Brackets.{tooDeep}
 use Rattle.grammar.specs.Reader.{parse}
 use Rattle.grammar.proofs.Tests.{or-false-left, or-false-right}
@@ -31,21 +33,9 @@ use Rattle.typed.specs.Meaning.{clausesMeant}
 use Rattle.typed.specs.Draft.{Draft, draft, empty, sketchOf, tooMany, sheetBytes, frontOf, Assembled, typedBytes}
 use Rattle.typed.proofs.Writing.{front-taken}
 use Rattle.typed.proofs.Sheet.{typed-clauses, typed-requirement, typed-verdict}
-use Rattle.text.specs.declared.read.TextAnswer.{TextAnswer}
-use Rattle.text.specs.declared.read.TextAnswer.the-variants.{Written, Refused}
 use Rattle.text.specs.declared.sheet.GotSheet.{GotSheet}
 use Rattle.text.specs.Parts.{Drawn, SheetRead, draftRefusal}
 use Rattle.text.specs.Text.{saidRefusal, RefusedBy, WrittenAs, ReadText}
-
--- an answer's number is the refusal's
-sheet-number : (s : List ℕ) → sheetNumber (sheetAnswer s) ≡ sheetRefusal s
-unfolding sheetAnswer sheetNumber pick
-sheet-number s = go (eqb (sheetRefusal s) 0) refl
-  where
-    go : (b : Bool) → eqb (sheetRefusal s) 0 ≡ b
-        → sheetNumber (pick b (Accepted (headerOf s)) (SheetAnswer.Refused (sheetRefusal s))) ≡ sheetRefusal s
-    go true e = sym (eqb-true (sheetRefusal s) 0 e)
-    go false e = refl
 
 -- the number of the sheet that was put together at the front of y
 pub number-read : (s m : ℕ) (nodes clauses : Draft) (x y : List ℕ) (size number : ℕ) (answer : SheetAnswer)
@@ -153,25 +143,31 @@ module _ (text x : List ℕ) where
     shallow : tooDeep text ≡ false
     shallow = sym e ∙ h
 
-    read-outside : parse 32 (tokens text) ≡ none → ReadText text x x (Refused 19)
-    read-outside unread =
+    outside-grammar : ((t : TypedSheet) → Says text t → ⊥) → ReadText text x x (Refused 19)
+    outside-grammar nothing =
         record {
           deep = λ d. absurd (true≢false (sym d ∙ shallow));
           outside = λ _ _. record { number-given = refl; unchanged = refl };
-          refused = λ _ t says. absurd (outside-unread text shallow unread t says);
-          written = λ _ t says. absurd (outside-unread text shallow unread t says);
+          refused = λ _ t says. absurd (nothing t says);
+          written = λ _ t says. absurd (nothing t says);
         }
 
+    pub unended-outside : (ends : Bool) → ends ≡ endsLine text → ends ≡ false → ReadText text x x (Refused 19)
+    unended-outside ends e₂ h₂ = outside-grammar (λ t says. true≢false (sym (says .ended) ∙ sym e₂ ∙ h₂))
+
     -- the one tree of the text
-    module _ (t : TypedSheet) (said : parse 32 (tokens text) ≡ some t) where
+    module _ (ended : endsLine text ≡ true) (t : TypedSheet) (said : parse 32 (tokens text) ≡ some t) where
+      said-tree : Says text t
+      said-tree = read-says 32 text t said ended
+
       same-tree : (t′ : TypedSheet) → Says text t′ → t ≡ t′
-      same-tree t′ says = unique text t t′ (read-says 32 text t said) says
+      same-tree t′ says = unique text t t′ said-tree says
 
       read-refused : (number : ℕ) → number ≡ saidRefusal t (length x) → (number ≡ 0 → ⊥) → ReadText text x x (Refused number)
       read-refused number is some-number =
           record {
             deep = λ d. absurd (true≢false (sym d ∙ shallow));
-            outside = λ _ nothing. absurd (nothing t (read-says 32 text t said));
+            outside = λ _ nothing. absurd (nothing t said-tree);
             refused = λ _ t′ says _.
                 record {
                   number-given = ap Refused (is ∙ ap (λ (t : TypedSheet). saidRefusal t (length x)) (same-tree t′ says));
@@ -186,7 +182,7 @@ module _ (text x : List ℕ) where
       read-written y long free front is =
           record {
             deep = λ d. absurd (true≢false (sym d ∙ shallow));
-            outside = λ _ nothing. absurd (nothing t (read-says 32 text t said));
+            outside = λ _ nothing. absurd (nothing t said-tree);
             refused = λ _ t′ says some-number.
                 absurd (some-number (sym (ap (λ (t : TypedSheet). saidRefusal t (length x)) (same-tree t′ says)) ∙ free));
             written = λ _ t′ says _.
@@ -200,9 +196,12 @@ module _ (text x : List ℕ) where
     module _ (a b nodes clauses : List ℕ) (r : GotSheet) (a-empty : a ≡ replicate 384 0) (b-empty : b ≡ replicate 88 0)
         (read : SheetRead text a b nodes clauses r) where
       pub unread-outside : r .ok ≡ false → ReadText text x x (Refused 19)
-      unread-outside bad = read-outside (read .fails bad)
+      unread-outside bad = outside-grammar (outside-unread text shallow (read .fails bad))
 
-      module _ (good : r .ok ≡ true) where
+      module _ (ends : Bool) (e₂ : ends ≡ endsLine text) (h₂ : ends ≡ true) (good : r .ok ≡ true) where
+        ended : endsLine text ≡ true
+        ended = sym e₂ ∙ h₂
+
         t : TypedSheet
         t = read .took good .tree
 
@@ -220,7 +219,7 @@ module _ (text x : List ℕ) where
         module _ (number : ℕ) (is : number ≡ draftRefusal (r .signals) (r .names) (draft nodes (r .count)) (draft clauses (r .many)) (length x)) where
           pub read-by-number : (number ≡ 0 → ⊥) → ReadText text x x (Refused number)
           unfolding t
-          read-by-number some-number = read-refused t (read .took good .said) number (is ∙ number-same) some-number
+          read-by-number some-number = read-refused ended t (read .took good .said) number (is ∙ number-same) some-number
 
           pub read-free : number ≡ 0 → Free (r .count) (r .many) (length x)
           read-free zero-number =
@@ -237,7 +236,7 @@ module _ (text x : List ℕ) where
               (read .took good .signals-said) (read .took good .names-said)
               ∙ bytes-same t nodes (r .count) clauses (r .many) drawn (length x) (free .few-nodes)
               in
-              read-written t (read .took good .said) y long (sym number-same ∙ sym is ∙ zero-number)
+              read-written ended t (read .took good .said) y long (sym number-same ∙ sym is ∙ zero-number)
               (put .bytes ∙ ap (λ (l : List ℕ). frontOf l x) same) (put .size ∙ ap length same)
 
 -- ---- one case applies to each text
@@ -256,36 +255,137 @@ pub case-of : (text : List ℕ) → Case text
 case-of text =
     elim (test (tooDeep text)) [
       | inl deep ↦ deep-text deep
-      | inr shallow ↦ go shallow (parse 32 (tokens text)) refl
+      | inr shallow ↦
+          elim (test (endsLine text)) [
+            | inl ended ↦ go shallow ended (parse 32 (tokens text)) refl
+            | inr unended ↦ outside-text shallow (λ t says. true≢false (sym (says .ended) ∙ unended))
+          ]
     ]
   where
-    go : tooDeep text ≡ false → (o : Option TypedSheet) → parse 32 (tokens text) ≡ o → Case text
-    go shallow none e = outside-text shallow (outside-unread text shallow e)
-    go shallow (some t) e =
-        let says = read-says 32 text t e in
+    go : tooDeep text ≡ false → endsLine text ≡ true → (o : Option TypedSheet) → parse 32 (tokens text) ≡ o → Case text
+    go shallow ended none e = outside-text shallow (outside-unread text shallow e)
+    go shallow ended (some t) e =
+        let says = read-says 32 text t e ended in
         said-text shallow (record { tree = t; says = says; only = λ t′ w. unique text t′ t w says })
 
 zero-or-not : (n : ℕ) → (n ≡ 0) ⊎ (n ≡ 0 → ⊥)
 zero-or-not n = elim (test (eqb n 0)) [ inl e ↦ inl (eqb-true n 0 e) | inr e ↦ inr (eqb-false n 0 e) ]
 
 -- what is promised leaves no choice
-by-number : {number : ℕ} {x y y′ : List ℕ} {r r′ : TextAnswer} → RefusedBy number x y r → RefusedBy number x y′ r′ → (r ≡ r′) × (y ≡ y′)
-by-number p q = (p .number-given ∙ sym (q .number-given), p .unchanged ∙ sym (q .unchanged))
+same-refusal : {number : ℕ} {x y y′ : List ℕ} {r r′ : WriteAnswer} → RefusedBy number x y r → RefusedBy number x y′ r′ → (r ≡ r′) × (y ≡ y′)
+same-refusal p q = (p .number-given ∙ sym (q .number-given), p .unchanged ∙ sym (q .unchanged))
 
-by-tree : {t : TypedSheet} {x y y′ : List ℕ} {r r′ : TextAnswer} → WrittenAs t x y r → WrittenAs t x y′ r′ → (r ≡ r′) × (y ≡ y′)
-by-tree p q = (p .length-given ∙ sym (q .length-given), p .in-front ∙ sym (q .in-front))
+same-writing : {t : TypedSheet} {x y y′ : List ℕ} {r r′ : WriteAnswer} → WrittenAs t x y r → WrittenAs t x y′ r′ → (r ≡ r′) × (y ≡ y′)
+same-writing p q = (p .length-given ∙ sym (q .length-given), p .in-front ∙ sym (q .in-front))
 
-pub determined : (text x y y′ : List ℕ) (r r′ : TextAnswer) → ReadText text x y r → ReadText text x y′ r′ → (r ≡ r′) × (y ≡ y′)
+pub determined : (text x y y′ : List ℕ) (r r′ : WriteAnswer) → ReadText text x y r → ReadText text x y′ r′ → (r ≡ r′) × (y ≡ y′)
 determined text x y y′ r r′ p q = go (case-of text)
   where
     go : Case text → (r ≡ r′) × (y ≡ y′)
-    go (deep-text deep) = by-number (p .deep deep) (q .deep deep)
-    go (outside-text shallow nothing) = by-number (p .outside shallow nothing) (q .outside shallow nothing)
+    go (deep-text deep) = same-refusal (p .deep deep) (q .deep deep)
+    go (outside-text shallow nothing) = same-refusal (p .outside shallow nothing) (q .outside shallow nothing)
     go (said-text shallow one) =
         elim (zero-or-not (saidRefusal (one .tree) (length x))) [
-          | inl free ↦ by-tree (p .written shallow (one .tree) (one .says) free) (q .written shallow (one .tree) (one .says) free)
-          | inr number ↦ by-number (p .refused shallow (one .tree) (one .says) number) (q .refused shallow (one .tree) (one .says) number)
+          | inl free ↦ same-writing (p .written shallow (one .tree) (one .says) free) (q .written shallow (one .tree) (one .says) free)
+          | inr number ↦ same-refusal (p .refused shallow (one .tree) (one .says) number) (q .refused shallow (one .tree) (one .says) number)
         ]
+
+-- ---- what is answered
+-- what 0 says of the sheet that was read, and of what is lent
+pub record Passed (t : TypedSheet) (lent : ℕ) : Type 0 where
+  pub few : tooMany t ≡ false
+  pub right : sheetRefusal (typedBytes t) ≡ 0
+  pub room : leastOutput ≤ lent
+
+passed : (t : TypedSheet) (lent : ℕ) → saidRefusal t lent ≡ 0 → Passed t lent
+unfolding saidRefusal
+passed t lent h = go (tooMany t) (eqb r 0) (ltb lent leastOutput) refl refl refl h
+  where
+    r : ℕ
+    r = sheetRefusal (typedBytes t)
+
+    go : (many clean short : Bool) → tooMany t ≡ many → eqb r 0 ≡ clean → ltb lent leastOutput ≡ short
+        → cond many 20 (cond clean (cond short 14 0) r) ≡ 0 → Passed t lent
+    go true clean short e₁ e₂ e₃ h = absurd (omega arith)
+    go false false short e₁ e₂ e₃ h = absurd (true≢false (sym (eq-eqb r 0 h) ∙ e₂))
+    go false true true e₁ e₂ e₃ h = absurd (omega arith)
+    go false true false e₁ e₂ e₃ h = record { few = e₁; right = eqb-true r 0 e₂; room = ltb-false lent leastOutput e₃ }
+
+said-small : (t : TypedSheet) (lent : ℕ) → saidRefusal t lent < 100
+unfolding saidRefusal
+said-small t lent = go (tooMany t) (eqb r 0) (ltb lent leastOutput) (sheet-small (typedBytes t))
+  where
+    r : ℕ
+    r = sheetRefusal (typedBytes t)
+
+    go : (many clean short : Bool) → r < 10 → cond many 20 (cond clean (cond short 14 0) r) < 100
+    go true clean short h = omega arith
+    go false true true h = omega arith
+    go false true false h = omega arith
+    go false false short h = omega arith
+
+-- a number refuses, or a tree's bytes are written
+pub data Outcome (text x y : List ℕ) (r : WriteAnswer) : Type 0 where
+  by-number : (number : ℕ) → number < 100 → RefusedBy number x y r → Outcome text x y r
+  by-tree : (t : TypedSheet) → Says text t → Passed t (length x) → WrittenAs t x y r → Outcome text x y r
+
+pub outcome : (text x y : List ℕ) (r : WriteAnswer) → ReadText text x y r → Outcome text x y r
+outcome text x y r p = go (case-of text)
+  where
+    go : Case text → Outcome text x y r
+    go (deep-text deep) = by-number 18 (omega arith) (p .deep deep)
+    go (outside-text shallow nothing) = by-number 19 (omega arith) (p .outside shallow nothing)
+    go (said-text shallow one) =
+        elim (zero-or-not (saidRefusal (one .tree) (length x))) [
+          | inl free ↦
+              by-tree (one .tree) (one .says) (passed (one .tree) (length x) free) (p .written shallow (one .tree) (one .says) free)
+          | inr number ↦
+              by-number (saidRefusal (one .tree) (length x)) (said-small (one .tree) (length x))
+              (p .refused shallow (one .tree) (one .says) number)
+        ]
+
+not-written : {number size : ℕ} {x y : List ℕ} → RefusedBy number x y (Written size) → ⊥
+not-written q = let e = q .number-given in let z : _≡_ {A = ℕ} 0 1 = cc in omega arith
+
+not-refused : {number : ℕ} {t : TypedSheet} {x y : List ℕ} → WrittenAs t x y (Refused number) → ⊥
+not-refused w = let e = w .length-given in let z : _≡_ {A = ℕ} 0 1 = cc in omega arith
+
+-- what is written fits, and the later bytes are as before
+pub record Fits (x y : List ℕ) (size : ℕ) : Type 0 where
+  pub long : size ≤ clausesEnd mostNodes mostClauses
+  pub later : drop size y ≡ drop size x
+  pub room : leastOutput ≤ length x
+  pub same-length : length y ≡ length x
+
+pub written-fits : (text x y : List ℕ) (size : ℕ) → ReadText text x y (Written size) → Fits x y size
+unfolding frontOf
+written-fits text x y size p = go (outcome text x y (Written size) p)
+  where
+    go : Outcome text x y (Written size) → Fits x y size
+    go (by-number number small q) = absurd (not-written q)
+    go (by-tree t says pass w) =
+        let e = w .length-given in
+        let is : size ≡ length (typedBytes t) = cc in
+        let o = opened (typedBytes t) (pass .right) in
+        let few : size ≤ clausesEnd mostNodes mostClauses = omega (arith, o .long, o .in-range .few-nodes, o .in-range .few-clauses) in
+        record {
+          long = few;
+          later =
+              ap (drop size) (w .in-front) ∙ drop-at (typedBytes t) (drop (length (typedBytes t)) x) size (sym is)
+              ∙ ap (λ (n : ℕ). drop n x) (sym is);
+          room = pass .room;
+          same-length =
+              ap length (w .in-front) ∙ length-append (typedBytes t) (drop (length (typedBytes t)) x)
+              ∙ simp length-drop (omega (arith, few, pass .room));
+        }
+
+-- a refusal's number is small, and nothing lent is changed
+pub refused-small : (text x y : List ℕ) (number : ℕ) → ReadText text x y (Refused number) → (number < 100) × (y ≡ x)
+refused-small text x y number p = go (outcome text x y (Refused number) p)
+  where
+    go : Outcome text x y (Refused number) → (number < 100) × (y ≡ x)
+    go (by-number k small q) = let e = q .number-given in let same : number ≡ k = cc in (omega arith, q .unchanged)
+    go (by-tree t says pass w) = absurd (not-refused w)
 
 -- ---- what is written means what the text means
 pub record Meant (text sheet : List ℕ) : Type 1 where
@@ -299,25 +399,8 @@ pub record Meant (text sheet : List ℕ) : Type 1 where
   pub requires : (unused : Part) (σ : Trace) → requirementOf sheet σ ≡ requirement (clausesMeant unused tree) σ
   pub verdicts : (unused : Part) (σ : Trace) → verdict (clausesOf sheet) σ ≡ verdict (clausesMeant unused tree) σ
 
--- what 0 says of the sheet that was read
-record Passed (t : TypedSheet) : Type 0 where
-  few : tooMany t ≡ false
-  right : sheetRefusal (typedBytes t) ≡ 0
-
-passed : (t : TypedSheet) (lent : ℕ) → saidRefusal t lent ≡ 0 → Passed t
-unfolding saidRefusal
-passed t lent h = go (tooMany t) (eqb r 0) (ltb lent leastOutput) refl refl h
-  where
-    r : ℕ
-    r = sheetRefusal (typedBytes t)
-
-    go : (many clean short : Bool) → tooMany t ≡ many → eqb r 0 ≡ clean → cond many 20 (cond clean (cond short 14 0) r) ≡ 0 → Passed t
-    go true clean short e₁ e₂ h = absurd (omega arith)
-    go false false short e₁ e₂ h = absurd (true≢false (sym (eq-eqb r 0 h) ∙ e₂))
-    go false true short e₁ e₂ h = record { few = e₁; right = eqb-true r 0 e₂ }
-
-meant-bytes : (text : List ℕ) (t : TypedSheet) → Says text t → Passed t → Meant text (typedBytes t)
-meant-bytes text t says p =
+meant-bytes : (text : List ℕ) (t : TypedSheet) (lent : ℕ) → Says text t → Passed t lent → Meant text (typedBytes t)
+meant-bytes text t lent says p =
     let numbers = small text t says in
     record {
       tree = t;
@@ -330,24 +413,14 @@ meant-bytes text t says p =
     }
 
 pub meaning : (text x y : List ℕ) (size : ℕ) → ReadText text x y (Written size) → Meant text (take size y)
-meaning text x y size p = go (case-of text)
+meaning text x y size p = go (outcome text x y (Written size) p)
   where
-    never : {number : ℕ} → RefusedBy number x y (Written size) → ⊥
-    never q = let e = q .number-given in let z : _≡_ {A = ℕ} 0 1 = cc in omega arith
-
     front : (t : TypedSheet) → WrittenAs t x y (Written size) → typedBytes t ≡ take size y
     front t w =
         let e = w .length-given in
         let long : size ≡ length (typedBytes t) = cc in
         sym (ap (take size) (w .in-front) ∙ front-taken (typedBytes t) x size long)
 
-    go : Case text → Meant text (take size y)
-    go (deep-text deep) = absurd (never (p .deep deep))
-    go (outside-text shallow nothing) = absurd (never (p .outside shallow nothing))
-    go (said-text shallow one) =
-        elim (zero-or-not (saidRefusal (one .tree) (length x))) [
-          | inl free ↦
-              rw (← front (one .tree) (p .written shallow (one .tree) (one .says) free))
-              (meant-bytes text (one .tree) (one .says) (passed (one .tree) (length x) free))
-          | inr number ↦ absurd (never (p .refused shallow (one .tree) (one .says) number))
-        ]
+    go : Outcome text x y (Written size) → Meant text (take size y)
+    go (by-number number few q) = absurd (not-written q)
+    go (by-tree t says pass w) = rw (← front t w) (meant-bytes text t (length x) says pass)

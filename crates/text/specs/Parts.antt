@@ -9,70 +9,22 @@ use lib.ListN.{length, getD}
 use Rattle.stored.specs.declared.StoredClause.{StoredClause}
 use Rattle.stored.specs.Layout.{leastOutput, mostNodes, mostClauses, nodeSize, clauseSize}
 use Rattle.stored.specs.Sheet.{sheetRefusal}
-use Rattle.grammar.specs.Token.{Token, plain, signalled, named, number, outside, closeRound, commaSign, tokens}
+use Rattle.grammar.specs.Token.{Token, closeRound, commaSign, tokens}
 use Rattle.grammar.specs.Tree.{TypedPart, TypedClause, Line, TypedSheet}
 use Rattle.grammar.specs.Reader.{State, sign, moreNames, atLine, aboutPart, run, answer, parse}
-use Rattle.lexer.specs.declared.Token.{Token as Lexeme}
-use Rattle.lexer.specs.declared.Token.the-variants.{Plain, Signal, Name, Number, Outside, End}
 use Rattle.typed.specs.Draft.{Draft, draft, Sketch, putPart, putParts, rootsOf, maskOf, partMask, ClauseFits, putLines, sheetBytes}
-use Rattle.formulas.specs.declared.leaf.Leaf.{Leaf}
+use Rattle.propositions.specs.declared.leaf.Leaf.{Leaf}
 use Rattle.text.specs.declared.part.GotPart.{GotPart}
 use Rattle.text.specs.declared.clause.GotParts.{GotParts}
 use Rattle.text.specs.declared.clause.GotClause.{GotClause}
 use Rattle.text.specs.declared.sheet.GotLines.{GotLines}
 use Rattle.text.specs.declared.sheet.GotSheet.{GotSheet}
-use Rattle.formulas.specs.Reads.{ahead}
-
--- ---- single tokens
--- the number of a word or sign, and of a name; 37 and 3 where the token is another
-abbrev pub plainNumber : Lexeme → ℕ
-plainNumber (Plain n) = n
-plainNumber (Signal k) = 37
-plainNumber (Name u) = 37
-plainNumber (Number n) = 37
-plainNumber Outside = 37
-plainNumber End = 37
-
-abbrev pub nameNumber : Lexeme → ℕ
-nameNumber (Plain n) = 3
-nameNumber (Signal k) = 3
-nameNumber (Name u) = u
-nameNumber (Number n) = 3
-nameNumber Outside = 3
-nameNumber End = 3
+use Rattle.propositions.specs.Reads.{ahead}
 
 -- no token is left
 unfoldable pub finished : List Token → Bool
 finished [] = true
 finished (t ∷ ts) = false
-
--- the next token is a name
-unfoldable pub namedNext : List Token → Bool
-namedNext [] = false
-namedNext (plain n ∷ ts) = false
-namedNext (signalled k ∷ ts) = false
-namedNext (named u ∷ ts) = true
-namedNext (number n ∷ ts) = false
-namedNext (outside ∷ ts) = false
-
--- a name is next, and is read; or none is next
-pub record NamePeeked (text : List ℕ) (at : ℕ) (r : Leaf) : Type 0 where
-  pub there : r .ok ≡ true → ahead text at ≡ named (r .value) ∷ ahead text (r .at)
-  pub small : r .ok ≡ true → r .value < 3
-  pub onward : r .ok ≡ true → at < r .at
-  pub within : r .at ≤ length text
-  pub absent : r .ok ≡ false → namedNext (ahead text at) ≡ false
-
--- the word of a clause's type by the type's number, and of a line's role
-abbrev pub typeToken : ℕ → Token
-typeToken t = plain (2 + t)
-
-abbrev pub roleToken : ℕ → Token
-roleToken role = plain (1 + role)
-
-pub record TypeNumber (r : Leaf) : Type 0 where
-  pub low : 1 ≤ r .value
-  pub high : r .value ≤ 6
 
 -- about to read a line, whatever s, m and the lines before it
 pub record Before : Type 0 where

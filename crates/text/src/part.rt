@@ -1,16 +1,14 @@
 // A part of a clause: a formula, a colon and names.
 use formulas::formula::formula;
-use formulas::leaf;
-use formulas::leaf::Leaf;
-use formulas::words::COLON;
-use lexer::Token;
-use lexer::next;
+use propositions::leaf;
+use propositions::leaf::Leaf;
+use propositions::words::COLON;
 use stored::masks;
 use typed::draft;
 ghost use mathlib.Core.Bool.{true};
 ghost use mathlib.Core.Path.{_≡_};
-ghost use Rattle.formulas.specs.Reads.{Ready};
-ghost use Rattle.text.specs.Parts.{nameNumber, NamePeeked, NamesRead, PartRead};
+ghost use Rattle.propositions.specs.Reads.{Ready};
+ghost use Rattle.text.specs.Parts.{NamesRead, PartRead};
 
 // The round brackets that a part may open: 32 less the clause's own.
 const PART_DEPTH: usize = 31;
@@ -23,34 +21,6 @@ pub struct GotPart {
     pub mask: usize,
 }
 
-// The number of a name, 3 for any other token.
-fn name_number(token: Token) -> usize
-    ensures { λ r. ⌜ r ≡ nameNumber token ⌝ }
-{
-    match token {
-        Token::Plain(_) => 3,
-        Token::Signal(_) => 3,
-        Token::Name(u) => u,
-        Token::Number(_) => 3,
-        Token::Outside => 3,
-        Token::End => 3,
-    }
-}
-
-// A name, if one is next.
-fn peek_name(text: &[u8], at: usize) -> Leaf
-    ensures { λ r. ⌜ NamePeeked (now (text .entry)) at r ⌝ }
-{
-    let read = next(text, at);
-    let token = read.token;
-    let u = name_number(token);
-    Leaf {
-        ok: u < 3,
-        at: read.at,
-        value: u,
-    }
-}
-
 // All the names that come next, as a mask. None may stand twice.
 fn names(text: &[u8], ok: bool, at: usize) -> Leaf
     ensures { λ r. ⌜ NamesRead (now (text .entry)) ok at r ⌝ }
@@ -58,7 +28,7 @@ fn names(text: &[u8], ok: bool, at: usize) -> Leaf
     let mut mask: usize = 0;
     let mut here = at;
     loop {
-        let name = peek_name(text, here);
+        let name = leaf::name(text, true, here);
         let u = name.value;
         if !name.ok {
             return Leaf {

@@ -1,6 +1,8 @@
 // Reads a typed sheet into a stored one.
 use crate::sheet::sheet;
 use lexer::brackets::too_deep;
+use lexer::ends_line;
+use stored::WriteAnswer;
 use stored::layout;
 use stored::sheet::read_sheet;
 use stored::sheet::sheet_number;
@@ -20,12 +22,6 @@ const NODE_BYTES: usize = layout::NODE_SIZE * layout::MOST_NODES;
 const CLAUSE_BYTES: usize = layout::CLAUSE_SIZE * layout::MOST_CLAUSES;
 
 const SHEET_BYTES: usize = layout::NODES_START + NODE_BYTES + CLAUSE_BYTES;
-
-// The length of the sheet written, or the refusal's number.
-pub enum TextAnswer {
-    Written(usize),
-    Refused(usize),
-}
 
 fn no_nodes() -> [u8; NODE_BYTES]
     ensures { λ r. ⌜ r ≡ replicate (nodeSize * mostNodes) 0 ⌝ }
@@ -87,11 +83,14 @@ fn refusal(
 
 // Reads a typed sheet, writes it as a stored sheet to the front of the lent bytes and gives its length, or the first refusal of 18, 19,
 // 20, 1 to 9 and 14; refused, the lent bytes are as before.
-pub fn read_text(text: &[u8], out: &mut [u8]) -> TextAnswer
+pub fn read_text(text: &[u8], out: &mut [u8]) -> WriteAnswer
     ensures { λ r. ⌜ ReadText (now (text .entry)) (now (out .entry)) (now (out .exit)) r ⌝ }
 {
     if too_deep(text) {
-        return TextAnswer::Refused(18);
+        return WriteAnswer::Refused(18);
+    }
+    if !ends_line(text) {
+        return WriteAnswer::Refused(19);
     }
     let mut nodes = no_nodes();
     let mut clauses = no_clauses();
@@ -101,11 +100,11 @@ pub fn read_text(text: &[u8], out: &mut [u8]) -> TextAnswer
     let n = said.count;
     let c = said.many;
     if !said.ok {
-        return TextAnswer::Refused(19);
+        return WriteAnswer::Refused(19);
     }
     let number = refusal(s, m, &nodes, n, &clauses, c, out.len());
     if number != 0 {
-        return TextAnswer::Refused(number);
+        return WriteAnswer::Refused(number);
     }
-    TextAnswer::Written(assemble(out, s, m, &nodes, n, &clauses, c))
+    WriteAnswer::Written(assemble(out, s, m, &nodes, n, &clauses, c))
 }

@@ -1,23 +1,18 @@
 // The lines of a typed sheet: a first one with two numbers, then a clause a line.
 use crate::clause::GotClause;
 use crate::clause::clause;
-use crate::clause::plain_number;
-use formulas::leaf;
-use formulas::leaf::Leaf;
-use formulas::words::ASSUME_WORD;
-use formulas::words::LINE_END;
-use formulas::words::REQUIRE_WORD;
-use lexer::Token;
-use lexer::next;
+use propositions::leaf;
+use propositions::words::ASSUME_WORD;
+use propositions::words::LINE_END;
+use propositions::words::REQUIRE_WORD;
 ghost use mathlib.Core.Bool.{true, false};
 ghost use mathlib.Core.Path.{_≡_};
-ghost use Prim.Native.Nat.{_≤_, _*_};
+ghost use Prim.Native.Nat.{_*_};
 ghost use lib.ListN.{length};
 ghost use Rattle.stored.specs.Layout.{nodeSize, clauseSize, mostNodes, mostClauses};
-ghost use Rattle.lexer.specs.Lexed.{isEnd};
 ghost use Rattle.typed.specs.Draft.{putLine};
-ghost use Rattle.formulas.specs.Reads.{ahead, Leafs};
-ghost use Rattle.text.specs.Parts.{finished, roleToken, aLineAfter, hasLine, LineReady, LineRead, LinesRead, SheetRead};
+ghost use Rattle.propositions.specs.Reads.{ahead};
+ghost use Rattle.text.specs.Parts.{finished, aLineAfter, hasLine, LineReady, LineRead, LinesRead, SheetRead};
 
 // Whether the lines were read to the end of the text, and how many nodes and clauses they have.
 pub struct GotLines {
@@ -35,48 +30,12 @@ pub struct GotSheet {
     pub many: usize,
 }
 
-fn is_end(token: Token) -> bool
-    ensures { λ r. ⌜ r ≡ isEnd token ⌝ }
-{
-    match token {
-        Token::Plain(_) => false,
-        Token::Signal(_) => false,
-        Token::Name(_) => false,
-        Token::Number(_) => false,
-        Token::Outside => false,
-        Token::End => true,
-    }
-}
-
 // Whether no token is left.
 fn ended(text: &[u8], at: usize) -> bool
     ensures { λ r. ⌜ r ≡ finished (ahead (now (text .entry)) at) ⌝ }
 {
-    let read = next(text, at);
-    let token = read.token;
-    is_end(token)
-}
-
-// The word of a role, by the role's number.
-fn role_word(text: &[u8], at: usize) -> Leaf
-    requires { ⌜ finished (ahead (now text) at) ≡ false ⌝ }
-    ensures { λ r. ⌜ Leafs roleToken aLineAfter (now (text .entry)) true at r × (r .value ≤ 1) ⌝ }
-{
-    let read = next(text, at);
-    let token = read.token;
-    let n = plain_number(token);
-    if (ASSUME_WORD <= n) & (n <= REQUIRE_WORD) {
-        return Leaf {
-            ok: true,
-            at: read.at,
-            value: n - 1,
-        };
-    }
-    Leaf {
-        ok: false,
-        at,
-        value: 0,
-    }
+    let read = leaf::token(text, true, at);
+    read.tag == leaf::END
 }
 
 // A role, a clause and the end of the line.
@@ -92,7 +51,7 @@ fn line(
     ensures { λ r. ⌜ LineRead aLineAfter hasLine putLine (now (text .entry)) true at (now (nodes .entry)) count (now (clauses .entry)) many
         (now (nodes .exit)) (now (clauses .exit)) r ⌝ }
 {
-    let word = role_word(text, at);
+    let word = leaf::word(text, true, at, ASSUME_WORD, REQUIRE_WORD);
     let said = clause(
         text,
         word.ok,

@@ -28,9 +28,10 @@ use Rattle.stored.proofs.Tree.{formula-agree}
 use Rattle.stored.proofs.Written.{header-length, header-back, header-byte, header-read, header-rest, nodes-in, taken-byte, taken-header, taken-node}
 use Rattle.stored.proofs.Emitted.{emitted-made}
 use Rattle.stored.proofs.Accepted.{Opened, length-nodes, length-clauses, accepted-fits, answer-accepted, answer-refused}
-use Rattle.translator.specs.declared.TranslateAnswer.{TranslateAnswer}
-use Rattle.translator.specs.declared.TranslateAnswer.the-variants.{Written, Refused}
-use Rattle.translator.specs.Answer.{translateRefusal, translateAnswer, translateNumber, writtenLength}
+use Rattle.stored.specs.declared.WriteAnswer.{WriteAnswer}
+use Rattle.stored.specs.declared.WriteAnswer.the-variants.{Written, Refused}
+use Rattle.stored.specs.Output.{writeAnswer, writeNumber, writtenLength}
+use Rattle.translator.specs.Refusal.{translateRefusal}
 use Rattle.emission.specs.Bound.{drawings, nodeBound}
 use Rattle.translator.specs.Translated.{FormulaOf, Translated}
 use Rattle.emission.specs.Emission.{count, formulaIn, Good, Step, Has, Emits}
@@ -248,16 +249,16 @@ module _ (s x y₀ y₁ y₂ : List ℕ) (r : ℕ) (o : Opened s) (big : leastOu
 
 -- ---- the three outcomes
 -- an answer has the number that applies
-pub number-told : {s x y : List ℕ} {r : TranslateAnswer} → Translated s x y r → translateNumber r ≡ translateRefusal s (length x)
-unfolding translateAnswer translateNumber pick
-number-told {s} {x} {r = r} t = ap translateNumber (t .answer) ∙ go (translateRefusal s (length x)) (eqb (translateRefusal s (length x)) 0) refl
+pub number-told : {s x y : List ℕ} {r : WriteAnswer} → Translated s x y r → writeNumber r ≡ translateRefusal s (length x)
+unfolding writeAnswer writeNumber pick
+number-told {s} {x} {r = r} t = ap writeNumber (t .answer) ∙ go (translateRefusal s (length x)) (eqb (translateRefusal s (length x)) 0) refl
   where
-    go : (k : ℕ) (b : Bool) → eqb k 0 ≡ b → translateNumber (pick b (Written (writtenLength r)) (Refused k)) ≡ k
+    go : (k : ℕ) (b : Bool) → eqb k 0 ≡ b → writeNumber (pick b (Written (writtenLength r)) (Refused k)) ≡ k
     go k true e = sym (eqb-true k 0 e)
     go k false e = refl
 
 refused-law : (s x : List ℕ) (k : ℕ) → translateRefusal s (length x) ≡ k → (k ≡ 0 → ⊥) → Translated s x x (Refused k)
-unfolding translateAnswer writtenLength pick
+unfolding writeAnswer writtenLength pick
 refused-law s x k e some =
     record {
       answer = rw (e, ne-eqb k 0 some);
@@ -289,7 +290,7 @@ module _ (s x : List ℕ) (answer : SheetAnswer) (h : Header) (told : answer ≡
   output-refused l = refused-law s x 14 (rw (no-number, lt-ltb (length x) leastOutput l)) (λ z. omega arith)
 
   pub translated : (y : List ℕ) (l : ℕ) → leastOutput ≤ length x → length y ≡ length x → FormulaOf s (take l y) → length (take l y) ≡ l → drop l y ≡ drop l x → Translated s x y (Written l)
-  unfolding translateRefusal translateAnswer writtenLength pick
+  unfolding translateRefusal writeAnswer writtenLength pick
   translated y l big size formula long later =
       let none : translateRefusal s (length x) ≡ 0 = rw (no-number, le-ltb (length x) leastOutput big) in
       record {

@@ -1,3 +1,3 @@
 -- What translate promises.
-pub mod Answer
+pub mod Refusal
 pub mod Translated

@@ -7,8 +7,9 @@ use lib.ListN.{length, take, drop}
 use Rattle.semantics.specs.Proposition.{Trace}
 use Rattle.stored.specs.Sheet.{headerOf, requirementOf}
 use Rattle.stored.specs.Emitted.{isEmitted, emittedTrue}
-use Rattle.translator.specs.declared.TranslateAnswer.{TranslateAnswer}
-use Rattle.translator.specs.Answer.{translateRefusal, translateAnswer, writtenLength}
+use Rattle.stored.specs.declared.WriteAnswer.{WriteAnswer}
+use Rattle.stored.specs.Output.{writeAnswer, writtenLength}
+use Rattle.translator.specs.Refusal.{translateRefusal}
 use Rattle.emission.specs.Bound.{nodeBound}
 
 -- y is an emitted formula for sheet s
@@ -22,8 +23,8 @@ pub record FormulaOf (s y : List ℕ) : Type 0 where
   pub agreement : (σ : Trace) → 0 < length σ → emittedTrue y σ ≡ requirementOf s σ
 
 -- output bytes x became y, and the answer is r
-pub record Translated (s x y : List ℕ) (r : TranslateAnswer) : Type 0 where
-  pub answer : r ≡ translateAnswer (translateRefusal s (length x)) (writtenLength r)
+pub record Translated (s x y : List ℕ) (r : WriteAnswer) : Type 0 where
+  pub answer : r ≡ writeAnswer (translateRefusal s (length x)) (writtenLength r)
   pub size : length y ≡ length x
   pub unchanged : (translateRefusal s (length x) ≡ 0 → ⊥) → y ≡ x
   -- where no number applies: the formula, whose length is answered; later bytes keep their values

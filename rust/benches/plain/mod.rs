@@ -1,9 +1,12 @@
 //! A plain bit-parallel checker without proofs: the obvious fast algorithm, against which the
 //! library's speed is measured. A table of 64 rows a node under one placement of the names; the
 //! names that a clause quantifies universally move in the outer loops, and a node is computed again
-//! only if a name that it reaches was moved. It reads accepted sheets and traces.
+//! only if a name that it reaches was moved. It reads accepted sheets and traces. Beside it a plain
+//! reader of typed sheets.
 
 #![allow(dead_code, clippy::needless_range_loop)]
+
+pub mod text;
 
 #[derive(Clone, Copy, Debug, PartialEq, Eq)]
 pub enum Verdict {
@@ -328,8 +331,11 @@ impl Checker {
                 if first.iter().all(|&row| row == 0) {
                     return;
                 }
-                let answers =
-                    if clause_type == 3 { [0; 64] } else { self.answers(roots[1], masks[1], inner) };
+                let answers = if clause_type == 3 {
+                    [0; 64]
+                } else {
+                    self.answers(roots[1], masks[1], inner)
+                };
                 for i in 0..cycles {
                     let open = first[i] & !answers[i];
                     if open != 0 {

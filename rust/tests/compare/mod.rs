@@ -152,6 +152,57 @@ impl Translated {
     }
 }
 
+/// Reads a typed sheet; the lent bytes are as before after a refusal, and past the sheet's.
+pub fn read_text(text: &[u8], out: usize) -> Result<Vec<u8>, Number> {
+    let replay = || {
+        let typed = String::from_utf8_lossy(text);
+        format!("read into {out} bytes\n{typed}\ntext {}", hex(text))
+    };
+    let before = lent_bytes(out);
+    let mut after = before.clone();
+    let length = number(fasunqir::read_text_into(text, &mut after));
+    let written = *length.as_ref().unwrap_or(&0);
+    assert!(written <= out, "length {written}\n{}", replay());
+    let found = length.map(|length| after[..length].to_vec());
+    assert_eq!(found, reference::text::read_text(text, out), "{}", replay());
+    assert!(before[written..] == after[written..], "bytes that are not the sheet's\n{}", replay());
+    found
+}
+
+/// Counts of texts that were read, and of refusals by their number.
+#[derive(Default)]
+pub struct TextTally {
+    pub read: usize,
+    pub numbers: [usize; 21],
+}
+
+impl TextTally {
+    pub fn count(&mut self, answer: &Result<Vec<u8>, Number>) {
+        match answer {
+            Ok(_) => self.read += 1,
+            Err(number) => self.numbers[*number as usize] += 1,
+        }
+    }
+
+    /// Prints the counts and demands so many at least: texts that were read, and refusals by 18, 19,
+    /// 20, 4, 6, 9 and 14.
+    pub fn demand(&self, what: &str, least: [usize; 8]) {
+        let refused = [18, 19, 20, 4, 6, 9, 14].map(|number: usize| self.numbers[number]);
+        let [n18, n19, n20, n4, n6, n9, n14] = refused;
+        report(format!(
+            "{what}: {} texts ({} read; refused {n18} by 18, {n19} by 19, {n20} by 20, {n4} by 4, \
+             {n6} by 6, {n9} by 9, {n14} by 14)",
+            self.read + self.numbers.iter().sum::<usize>(),
+            self.read
+        ));
+        let none = [1, 2, 3, 5, 7, 8].iter().all(|&number: &usize| self.numbers[number] == 0);
+        assert!(none, "{what}: what a text stands for can't be refused so: {:?}", self.numbers);
+        let counts: Vec<usize> = [self.read].into_iter().chain(refused).collect();
+        let enough = counts.iter().zip(&least).all(|(count, least)| count >= least);
+        assert!(enough, "{what}: {counts:?} came, and {least:?} at least are demanded");
+    }
+}
+
 /// Counts of what was found.
 #[derive(Default)]
 pub struct Tally {

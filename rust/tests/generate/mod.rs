@@ -1,6 +1,8 @@
-//! Random sheets and traces from fixed seeds: plain, drawn as people draw them, and damaged.
+//! Random sheets and traces from fixed seeds: plain, drawn as people draw them, typed, and damaged.
 
 #![allow(dead_code)]
+
+pub mod text;
 
 use crate::build::Role::*;
 use crate::build::{Node, Part, Role, Sheet, Trace};

@@ -1,5 +1,6 @@
-//! The brute-force second implementation, from document 01 alone: literal and slow. Placements are
-//! enumerated as maps, columns as strings of zeros and ones, and intervals by recursion.
+//! The brute-force second implementation, from document 01 and the change requests alone: literal
+//! and slow. Placements are enumerated as maps, columns as strings of zeros and ones, intervals by
+//! recursion, and readings of a text by all ways of cutting it.
 
 #![allow(dead_code, clippy::needless_range_loop)]
 
@@ -8,6 +9,7 @@ pub mod formula;
 pub mod meaning;
 pub mod program;
 pub mod stored;
+pub mod text;
 
 use clauses::Verdict;
 use meaning::{Marks, Meaning};

@@ -42,6 +42,20 @@ pub fn page(input: &[u8]) -> Result<String, String> {
         .map_err(refused)
 }
 
+/// The answer of `sheettext`, which holds 65,536 bytes; a longer text gets 0, which is no number of
+/// the papers.
+pub fn text(input: &[u8]) -> Result<Vec<u8>, Number> {
+    if input.len() > 65_536 {
+        return Err(0);
+    }
+    super::text::read_text(input, 8192)
+}
+
+/// What `sheettext` writes.
+pub fn stored(input: &[u8]) -> Vec<u8> {
+    text(input).unwrap_or_else(|number| refused(number).into_bytes())
+}
+
 /// The sheet that `sheetformula` reads, all of the first 1,024 bytes, or the line of its refusal.
 pub fn sheet(input: &[u8]) -> Result<super::Sheet, String> {
     super::translate(&input[..input.len().min(1024)], 8192).map_err(refused)

@@ -4,7 +4,7 @@ use native.Mathlib.Omega.{arith}
 use mathlib.Core.Path.{refl}
 use Rattle.typed.specs.Draft.{putUnitF}
 use Rattle.formulas.proofs.Pieces.{at-went, alone-puttable}
-use Rattle.formulas.proofs.Went.{reads-alone}
+use Rattle.propositions.proofs.Went.{reads-alone}
 use Rattle.formulas.proofs.piece.at_name.Statement.{statement}
 use Rattle.formulas.proofs.piece.at_name.Tie as tie
 

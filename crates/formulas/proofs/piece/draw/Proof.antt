@@ -3,7 +3,7 @@ use borrow.Author.Needs.{needs}
 use native.Mathlib.Omega.{arith}
 use mathlib.Core.Path.{refl}
 use Rattle.formulas.proofs.Pieces.{draw-went, draw-same, alone-puttable}
-use Rattle.formulas.proofs.Went.{reads-alone}
+use Rattle.propositions.proofs.Went.{reads-alone}
 use Rattle.formulas.proofs.piece.draw.Statement.{statement}
 use Rattle.formulas.proofs.piece.draw.Tie as tie
 

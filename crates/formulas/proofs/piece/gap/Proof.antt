@@ -5,7 +5,7 @@ use mathlib.Core.Path.{refl}
 use borrow.Author.Tests.{not-true, not-false}
 use Rattle.typed.specs.Draft.{putUnitF}
 use Rattle.formulas.proofs.Pieces.{gap-went, alone-puttable}
-use Rattle.formulas.proofs.Went.{went-well, reads-none, reads-alone}
+use Rattle.propositions.proofs.Went.{went-well, reads-none, reads-alone}
 use Rattle.formulas.proofs.piece.gap.Statement.{statement}
 use Rattle.formulas.proofs.piece.gap.Tie as tie
 

@@ -3,7 +3,7 @@ use borrow.Author.Needs.{needs}
 use native.Mathlib.Omega.{arith}
 use mathlib.Core.Path.{refl}
 use Rattle.formulas.proofs.Pieces.{slen-went, slen-same, alone-puttable}
-use Rattle.formulas.proofs.Went.{reads-alone}
+use Rattle.propositions.proofs.Went.{reads-alone}
 use Rattle.formulas.proofs.piece.slen.Statement.{statement}
 use Rattle.formulas.proofs.piece.slen.Tie as tie
 

@@ -2,26 +2,32 @@
 use mathlib.Core.Path.{refl}
 use native.Mathlib.Omega.{arith}
 use borrow.Author.Tests.{not-true, not-false}
-use Rattle.text.proofs.Clauses.{parts-ready, clause-unread, clause-fits, clause-well, clause-onward, clause-read}
+use Rattle.text.proofs.Clauses.{type-leafs, used-some, parts-ready, clause-unread, clause-fits, clause-well, clause-onward, clause-read}
 use borrow.Author.Needs.{needs}
 use Rattle.text.proofs.clause.clause.Statement.{statement}
 use Rattle.text.proofs.clause.clause.Tie as tie
 
-type-word-requires : tie.Need-type-word-requires
-type-word-requires c κs = search needs
+word-requires : tie.Need-word-requires
+word-requires c κs = search needs
+
+add-clause-type : tie.Need-add-clause-type
+add-clause-type c = omega (arith, c .before .word .ensures .range)
+
+parts-used-requires : tie.Need-parts-used-requires
+parts-used-requires c κs = search needs
 
 sign-requires : tie.Need-sign-requires
 sign-requires c κs = search needs
 
+sub-parts : tie.Need-sub-parts
+sub-parts c =
+    omega (arith, c .before .parts-used .ensures, used-some _ (c .before .before .before .word .ensures .range))
+
 parts-requires : tie.Need-parts-requires
 parts-requires c κs =
-    let word = c .before .before .type-word in
-    let asked = c .before .before .before .before .before .before .pre in (
-      parts-ready (word .result) (c .before .sign .result) (asked .0) (word .ensures .0) (c .before .sign .ensures),
-      word .ensures .1 .low,
-      word .ensures .1 .high,
-      asked .1,
-    )
+    let word = c .before .before .before .before .word in
+    let asked = c .before .before .before .before .before .before .before .before .pre in
+    (parts-ready (asked .0) (type-leafs (word .ensures)) (c .before .sign .ensures), omega (arith, word .ensures .range), asked .1)
 
 sign-requires-2 : tie.Need-sign-requires-2
 sign-requires-2 c κs = search needs
@@ -31,33 +37,28 @@ same-length c = search needs
 
 returns : tie.Need-returns
 returns c =
-    let word = c .before .before .before .before .before .before .before .before .before .type-word in
-    let bracket = c .before .before .before .before .before .before .before .before .sign in
-    let said = c .before .before .before .before .before .before .parts in
-    let close = c .before .before .before .sign2 in
-    clause-unread _ _ _ _ _ _ _ (word .result) (bracket .result) (said .result) (close .result) (word .ensures .0) (word .ensures .1)
-    (bracket .ensures) (said .ensures)
-    (close .ensures) _ _ _ _ (not-true _ (c .if1 .taken)) refl
+    let at-parts = c .before .before .before .before .before .before in
+    let bracket = at-parts .before .before .sign in
+    let used = at-parts .before .before .before .parts-used in
+    let word = at-parts .before .before .before .before .before .word in
+    clause-unread (type-leafs (word .ensures)) (word .ensures .range) (used .ensures) (bracket .ensures) (at-parts .parts .ensures)
+    (c .before .before .before .sign2 .ensures) (not-true _ (c .if1 .taken)) refl
 
 put-clause-requires : tie.Need-put-clause-requires
 put-clause-requires c κs =
-    let word = c .before .before .before .before .before .before .before .before .before .before .type-word in
-    let bracket = c .before .before .before .before .before .before .before .before .before .sign in
-    let said = c .before .before .before .before .before .before .before .parts in
-    let close = c .before .before .before .before .sign2 in
-    let asked = c .before .before .before .before .before .before .before .before .before .before .before .before .before .before .pre in
+    let at-parts = c .before .before .before .before .before .before .before in
+    let bracket = at-parts .before .before .sign .ensures in
+    let used = at-parts .before .before .before .parts-used .ensures in
+    let word = at-parts .before .before .before .before .before .word .ensures in
+    let asked = at-parts .before .before .before .before .before .before .before .before .before .pre in
+    let close = c .before .before .before .before .sign2 .ensures in
     let final = not-false _ (c .before .if1 .left) in
-    let on = clause-onward _ _ _ _ _ _ _ (word .result) (bracket .result) (said .result) (close .result) (word .ensures .0)
-    (word .ensures .1) (bracket .ensures) (said .ensures)
-    (close .ensures) final in
-    let few = asked .0 .clauses-taken (clause-well _ _ _ _ _ _ _ (word .result) (bracket .result) (said .result) (close .result)
-    (word .ensures .0) (word .ensures .1) (bracket .ensures) (said .ensures)
-    (close .ensures) final) in (
+    let on = clause-onward (type-leafs word) (word .range) used bracket (at-parts .parts .ensures) close final in
+    let few =
+    asked .0 .clauses-taken (clause-well (type-leafs word) (word .range) used bracket (at-parts .parts .ensures) close final) in (
       asked .0 .clauses-area,
       omega arith,
-      λ _. clause-fits _ _ _ _ _ _ _ (word .result) (bracket .result) (said .result) (close .result) (word .ensures .0) (word .ensures .1)
-          (bracket .ensures) (said .ensures)
-          (close .ensures) final,
+      λ _. clause-fits (type-leafs word) (word .range) used bracket (at-parts .parts .ensures) close final,
     )
 
 same-length-2 : tie.Need-same-length-2
@@ -68,20 +69,23 @@ same-length-3 c = search needs
 
 returns-2 : tie.Need-returns-2
 returns-2 c =
-    let word = c .before .before .before .before .before .before .before .before .before .before .before .before .before .type-word in
-    let bracket = c .before .before .before .before .before .before .before .before .before .before .before .before .sign in
-    let said = c .before .before .before .before .before .before .before .before .before .before .parts in
-    let close = c .before .before .before .before .before .before .before .sign2 in
-    clause-read _ _ _ _ _ _ _ (word .result) (bracket .result) (said .result) (close .result) (word .ensures .0) (word .ensures .1)
-    (bracket .ensures) (said .ensures)
-    (close .ensures) _ _ _ _ (not-false _ (c .before .before .before .before .if1 .left)) (c .before .before .put-clause .ensures)
+    let at-parts = c .before .before .before .before .before .before .before .before .before .before in
+    let bracket = at-parts .before .before .sign in
+    let used = at-parts .before .before .before .parts-used in
+    let word = at-parts .before .before .before .before .before .word in
+    clause-read (type-leafs (word .ensures)) (word .ensures .range) (used .ensures) (bracket .ensures) (at-parts .parts .ensures)
+    (c .before .before .before .before .before .before .before .sign2 .ensures)
+    (not-false _ (c .before .before .before .before .if1 .left)) (c .before .before .put-clause .ensures)
 
 pub clause-spec : {M : Type 1} → statement M
 clause-spec =
     tie.close
     (tie.spec
-    type-word-requires
+    word-requires
+    add-clause-type
+    parts-used-requires
     sign-requires
+    sub-parts
     parts-requires
     sign-requires-2
     same-length

@@ -17,24 +17,24 @@ abbrev μ-loop : tie.MeasureT-loop
 loop-holds : tie.Need-loop-holds Inv-loop μ-loop
 loop-holds c = no-names _ _
 
-peek-name-requires : tie.Need-peek-name-requires Inv-loop μ-loop
-peek-name-requires c κs = search needs
+name-requires : tie.Need-name-requires Inv-loop μ-loop
+name-requires c κs = search needs
 
 returns : tie.Need-returns Inv-loop μ-loop
 returns c =
     let at = c .before .before .before .loop in
-    let name = c .before .before .peek-name in
+    let name = c .before .before .name in
     names-read _ _ (at .mask) (at .here) (at .inv) (name .result) (name .ensures) (not-true _ (c .if1 .taken)) _
 
 has-name-requires : tie.Need-has-name-requires Inv-loop μ-loop
 has-name-requires c κs =
-    let name = c .before .before .peek-name in
+    let name = c .before .before .name in
     omega (arith, name .ensures .small (not-false _ (c .if1 .left)))
 
 returns-2 : tie.Need-returns-2 Inv-loop μ-loop
 returns-2 c =
     let at = c .before .before .before .before .before .loop in
-    let name = c .before .before .before .before .peek-name in
+    let name = c .before .before .before .before .name in
     twice-read _ _ _ _ _
     (twice _ _ (at .mask) (at .here) (at .inv) (name .result) (name .ensures) (not-false _ (c .before .before .if1 .left))
     _ (c .before .has-name .ensures) (c .if2 .taken))
@@ -44,13 +44,14 @@ with-name-requires c κs = search needs
 
 loop-less : tie.Need-loop-less Inv-loop μ-loop
 loop-less c =
-    let name = c .before .before .before .before .before .peek-name in
-    omega (arith, name .ensures .onward (not-false _ (c .before .before .before .if1 .left)), name .ensures .within)
+    let name = c .before .before .before .before .before .name in
+    let ok = not-false (name .result .ok) (c .before .before .before .if1 .left) in
+    omega (arith, name .ensures .onward ok, name .ensures .within ok)
 
 loop-again : tie.Need-loop-again Inv-loop μ-loop
 loop-again c =
     let at = c .before .before .before .before .before .before .loop in
-    let name = c .before .before .before .before .before .peek-name in
+    let name = c .before .before .before .before .before .name in
     one-more _ _ (at .mask) (at .here) (at .inv) (name .result) (name .ensures) (not-false _ (c .before .before .before .if1 .left))
     _ (c .before .before .has-name .ensures) (c .before .if2 .left) _ (c .with-name .ensures)
 
@@ -61,7 +62,7 @@ names-spec =
     Inv-loop
     μ-loop
     loop-holds
-    peek-name-requires
+    name-requires
     returns
     has-name-requires
     returns-2
