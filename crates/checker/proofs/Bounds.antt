@@ -16,10 +16,11 @@ use Rattle.semantics.specs.Verdict as semantics
 use Rattle.semantics.specs.Verdict.{failsAs, firstPlace, excusedOr, brokenOr, verdict}
 use Rattle.stored.specs.Bytes.{lowest}
 use Rattle.stored.specs.Sheet.{headerOf, nodesOf, clausesOf, clauseIn, sheetRefusal, sheetRules}
-use Rattle.stored.specs.Trace.{cyclesOf, cycleCount, traceRefusal, traceRules}
+use Rattle.traces.specs.Trace.{cyclesOf, cycleCount, traceRefusal, traceRules}
 use Rattle.stored.specs.Tree.{pick}
 use Rattle.stored.proofs.Rules.{length-inOrder, lowest-law}
-use Rattle.stored.proofs.Accepted.{opened, trace-opened, cycles-count}
+use Rattle.stored.proofs.Accepted.{opened}
+use Rattle.traces.proofs.Accepted.{trace-opened, cycles-count}
 use Rattle.checker.specs.declared.check.Answer.the-variants.{Refused}
 use Rattle.checker.specs.Table.{orElse, wordsRefusal, nodeRules, nodeRefusal, tableRefusal, tableAnswer, answerFor}
 use Rattle.checker.specs.Check.{told, checkRefusal, checkAnswer}

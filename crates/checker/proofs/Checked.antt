@@ -1,5 +1,5 @@
 -- The check's answer from what was read: refused by the lowest number, or the verdict.
-use Prim.Native.Nat.{ℕ, zero, suc, _*_, _^_, _≤_, _<_}
+use Prim.Native.Nat.{ℕ, zero, suc, _^_, _≤_, _<_}
 use native.Mathlib.Omega.{arith}
 use mathlib.Core.Bool.{true, false}
 use mathlib.Core.List.{List}
@@ -17,17 +17,18 @@ use Rattle.stored.specs.declared.Header.{Header}
 use Rattle.stored.specs.declared.StoredClause.{StoredClause}
 use Rattle.stored.specs.declared.SheetAnswer.{SheetAnswer}
 use Rattle.stored.specs.declared.SheetAnswer.the-variants.{Accepted}
-use Rattle.stored.specs.declared.TraceAnswer.{TraceAnswer}
-use Rattle.stored.specs.declared.TraceAnswer.the-variants.{Cycles}
+use Rattle.traces.specs.declared.TraceAnswer.{TraceAnswer}
+use Rattle.traces.specs.declared.TraceAnswer.the-variants.{Cycles}
 use Rattle.stored.specs.Bytes.{inOrder, lowest}
-use Rattle.stored.specs.Columns.{columnsOf, traceOf}
+use Rattle.traces.specs.Columns.{columnsOf, traceOf}
 use Rattle.stored.specs.Node.{nodeAt, requirementSorts}
 use Rattle.stored.specs.Clause.{storedAt, clauseOf, partsUsed}
 use Rattle.stored.specs.Sheet.{headerOf, nodePart, clausePart, nodesOf, storedOf, clauseIn, clausesOf, sheetRefusal, sheetAnswer, sheetNumber}
-use Rattle.stored.specs.Trace.{cyclesOf, traceRefusal, traceAnswer, traceNumber}
+use Rattle.traces.specs.Trace.{cyclesOf, traceRefusal, traceAnswer, traceNumber}
 use Rattle.stored.specs.Tree.{pick}
 use Rattle.stored.proofs.Tree.{Earlier}
-use Rattle.stored.proofs.Accepted.{Opened, ClauseKept, clauses-kept, accepted-fits, type-cases, mask-small, open-answer, answer-accepted, cycles-accepted, answer-refused, cycles-refused, length-clauses, sheet-number, trace-number}
+use Rattle.stored.proofs.Accepted.{Opened, ClauseKept, clauses-kept, accepted-fits, type-cases, mask-small, open-answer, answer-accepted, answer-refused, length-clauses, sheet-number}
+use Rattle.traces.proofs.Accepted.{cycles-accepted, cycles-refused, trace-number}
 use Rattle.checker.specs.declared.check.Answer.{Answer}
 use Rattle.checker.specs.declared.check.Answer.the-variants.{Refused}
 use Rattle.checker.specs.Table.{orElse, wordsRefusal, wordsAfter}

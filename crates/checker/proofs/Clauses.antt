@@ -10,11 +10,11 @@ use Rattle.semantics.specs.Placement.{noNames, somePlacement}
 use Rattle.semantics.specs.Clause.{Clause, breaks}
 use Rattle.semantics.specs.Verdict.{verdict}
 use Rattle.stored.specs.declared.StoredClause.{StoredClause}
-use Rattle.stored.specs.Columns.{traceOf}
+use Rattle.traces.specs.Columns.{traceOf}
 use Rattle.stored.specs.Node.{nodeAt}
 use Rattle.stored.specs.Clause.{clauseOf}
 use Rattle.stored.specs.Reach.{reachTable}
-use Rattle.stored.proofs.Columns.{told-length}
+use Rattle.traces.proofs.Columns.{told-length}
 use Rattle.tables.specs.Table.{standing, Inside, Tables}
 use Rattle.tables.specs.Ready.{Given, withNames}
 use Rattle.tables.proofs.Columns.{names-columns, names-told}
@@ -22,7 +22,7 @@ use Rattle.tables.proofs.Fills.{given-other}
 use Rattle.places.specs.declared.task.Task.{Task}
 use Rattle.places.specs.declared.walk.Job.{Job}
 use Rattle.places.specs.declared.walk.Spot.{Spot}
-use Rattle.places.specs.Places.{places, numbered, IsLeast}
+use Rattle.intervals.specs.Places.{places, numbered, IsLeast}
 use Rattle.places.specs.Task.{taskOf, missedTask}
 use Rattle.places.specs.Laid.{Laid, Formulas, Walkable, missedOn, overLast}
 use Rattle.places.proofs.Tasks.{task-least}

@@ -10,15 +10,16 @@ use lib.ListN.{length}
 use Rattle.stored.specs.Layout.{leastWords}
 use Rattle.stored.specs.declared.Header.{Header}
 use Rattle.stored.specs.declared.SheetAnswer.the-variants.{Accepted}
-use Rattle.stored.specs.declared.TraceAnswer.the-variants.{Cycles}
+use Rattle.traces.specs.declared.TraceAnswer.the-variants.{Cycles}
 use Rattle.stored.specs.Bytes.{inOrder}
-use Rattle.stored.specs.Columns.{columnsOf, traceOf}
+use Rattle.traces.specs.Columns.{columnsOf, traceOf}
 use Rattle.stored.specs.Node.{requirementSorts, sortOf, nodeAt, nodeRight, operandsRight}
 use Rattle.stored.specs.Sheet.{headerOf, nodePart, nodesOf, sheetAnswer}
-use Rattle.stored.specs.Trace.{cycleCount, cyclesOf, traceAnswer}
+use Rattle.traces.specs.Trace.{cycleCount, cyclesOf, traceAnswer}
 use Rattle.stored.proofs.Rules.{every-all}
-use Rattle.stored.proofs.Accepted.{Opened, open-answer, answer-accepted, TraceOpened, trace-opened, cycles-accepted, length-nodes}
-use Rattle.stored.proofs.Columns.{told-length, are-columns, columns-tell}
+use Rattle.stored.proofs.Accepted.{Opened, open-answer, answer-accepted, length-nodes}
+use Rattle.traces.proofs.Accepted.{TraceOpened, trace-opened, cycles-accepted}
+use Rattle.traces.proofs.Columns.{told-length, are-columns, columns-tell}
 use Rattle.stored.specs.Reach.{reachTable}
 use Rattle.stored.specs.Tree.{earlier, formulaAt}
 use Rattle.stored.proofs.Made.{earlier-at, earlier-not}

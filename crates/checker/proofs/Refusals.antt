@@ -2,9 +2,9 @@
 use Prim.Native.Nat.{ℕ, zero, suc, _≤_, _<_}
 use mathlib.Core.Bool.{Bool, true, false, not, cond, _||_}
 use mathlib.Core.List.{List, [], _∷_}
-use mathlib.Core.Path.{_≡_, refl, sym, _∙_, ap}
+use mathlib.Core.Path.{_≡_, sym, _∙_, ap}
 use native.Mathlib.Omega.{arith}
-use borrow.Author.Tests.{eqb-true, eq-eqb, ltb-true, le-leb, lt-leb}
+use borrow.Author.Tests.{eq-eqb, ltb-true, le-leb, lt-leb}
 use lib.Dec.{ltb, eqb}
 use lib.ListN.{length, replicate}
 use Rattle.stored.specs.Layout.{leastWords}
@@ -13,7 +13,7 @@ use Rattle.stored.specs.declared.Node.{Node}
 use Rattle.stored.specs.Bytes.{lowest}
 use Rattle.stored.specs.Node.{requirementSorts, isFormulaNode}
 use Rattle.stored.specs.Sheet.{headerOf, nodesOf, sheetRefusal}
-use Rattle.stored.specs.Trace.{cycleCount, cyclesOf, traceRefusal}
+use Rattle.traces.specs.Trace.{cycleCount, cyclesOf, traceRefusal}
 use Rattle.stored.specs.Tree.{pick}
 use Rattle.tables.specs.Table.{standing, Inside}
 use Rattle.checker.specs.declared.table.TableAnswer.{TableAnswer}

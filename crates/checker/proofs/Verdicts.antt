@@ -18,15 +18,15 @@ use Rattle.stored.specs.declared.Node.{Node}
 use Rattle.stored.specs.declared.StoredClause.{StoredClause}
 use Rattle.stored.specs.Bytes.{inOrder}
 use Rattle.stored.specs.Clause.{storedAt, clauseOf, roleOf}
-use Rattle.stored.specs.Columns.{traceOf}
+use Rattle.traces.specs.Columns.{traceOf}
 use Rattle.stored.specs.Node.{nodeAt}
 use Rattle.checker.specs.declared.check.Answer.the-variants.{Excused, Broken, Holds}
-use Rattle.places.specs.Places.{places, numbered, IsLeast}
+use Rattle.intervals.specs.Places.{places, numbered, IsLeast}
 use Rattle.checker.specs.declared.check.Failing.{Failing}
 use Rattle.checker.specs.Check.{told}
 use Rattle.checker.specs.Clauses.{PlaceIs, First, FailingIs, clauseAt, placeOf}
 use Rattle.places.specs.Laid.{Laid}
-use Rattle.places.proofs.Places.{fails-least, place-least}
+use Rattle.intervals.proofs.Places.{fails-least, place-least}
 
 -- ---- the first failing clause of a list in order
 excused-none : (from n : ℕ) (f : ℕ → Clause) (σ : Trace) (v : semantics.Verdict) → ((k : ℕ) → k < n → failsAs assumption σ (f k) ≡ false)

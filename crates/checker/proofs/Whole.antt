@@ -7,14 +7,15 @@ use Rattle.stored.specs.Layout.{leastWords}
 use Rattle.stored.specs.declared.Header.{Header}
 use Rattle.stored.specs.declared.SheetAnswer.{SheetAnswer}
 use Rattle.stored.specs.declared.SheetAnswer.the-variants.{Accepted}
-use Rattle.stored.specs.declared.TraceAnswer.{TraceAnswer}
-use Rattle.stored.specs.declared.TraceAnswer.the-variants.{Cycles}
+use Rattle.traces.specs.declared.TraceAnswer.{TraceAnswer}
+use Rattle.traces.specs.declared.TraceAnswer.the-variants.{Cycles}
 use Rattle.semantics.specs.Proposition.{Trace}
-use Rattle.stored.specs.Columns.{columnsOf, traceOf}
+use Rattle.traces.specs.Columns.{columnsOf, traceOf}
 use Rattle.stored.specs.Node.{nodeAt}
 use Rattle.stored.specs.Sheet.{headerOf, nodePart, nodesOf, sheetRefusal, sheetAnswer, sheetNumber}
-use Rattle.stored.specs.Trace.{cycleCount, cyclesOf, traceRefusal, traceAnswer, traceNumber}
-use Rattle.stored.proofs.Accepted.{answer-accepted, cycles-accepted, answer-refused, cycles-refused, sheet-number, trace-number}
+use Rattle.traces.specs.Trace.{cycleCount, cyclesOf, traceRefusal, traceAnswer, traceNumber}
+use Rattle.stored.proofs.Accepted.{answer-accepted, answer-refused, sheet-number}
+use Rattle.traces.proofs.Accepted.{cycles-accepted, cycles-refused, trace-number}
 use Rattle.checker.specs.declared.table.TableAnswer.{TableAnswer}
 use Rattle.checker.specs.Table.{placementOf, tableOf, nodeRefusal, answerFor, tableRefusal, tableAnswer, wordsAfter}
 use Rattle.checker.proofs.Opened.{cycled-as, told-accepted}

@@ -5,7 +5,7 @@ use lib.Dec.{eqb}
 use Rattle.semantics.specs.Verdict as semantics
 use Rattle.semantics.specs.Verdict.{verdict}
 use Rattle.stored.specs.Sheet.{headerOf, sheetRefusal, clausesOf}
-use Rattle.stored.specs.Trace.{cyclesOf, traceRefusal}
+use Rattle.traces.specs.Trace.{cyclesOf, traceRefusal}
 use Rattle.stored.specs.Tree.{pick}
 use Rattle.checker.specs.declared.check.Answer.{Answer}
 use Rattle.checker.specs.declared.check.Answer.the-variants.{Refused, Excused, Broken, Holds}

@@ -12,7 +12,7 @@ use Rattle.stored.specs.declared.StoredClause.{StoredClause}
 use Rattle.stored.specs.Node.{nodeAt}
 use Rattle.stored.specs.Layout.{clauseSize, mostClauses}
 use Rattle.stored.specs.Clause.{lastRole, storedAt, clauseOf}
-use Rattle.places.specs.Places.{places, numbered, IsLeast}
+use Rattle.intervals.specs.Places.{places, numbered, IsLeast}
 use Rattle.places.specs.Task.{taskOf}
 use Rattle.places.specs.Laid.{Formulas}
 use Rattle.checker.specs.declared.check.Place.{Place}

@@ -13,7 +13,7 @@ use Rattle.stored.specs.Bytes.{inOrder, lowest}
 use Rattle.stored.specs.Layout.{leastWords}
 use Rattle.stored.specs.Node.{requirementSorts, isFormulaNode}
 use Rattle.stored.specs.Sheet.{headerOf, nodesOf, sheetRefusal}
-use Rattle.stored.specs.Trace.{cycleCount, cyclesOf, traceRefusal}
+use Rattle.traces.specs.Trace.{cycleCount, cyclesOf, traceRefusal}
 use Rattle.stored.specs.Tree.{pick, formulaAt}
 use Rattle.tables.specs.Table.{standing}
 use Rattle.checker.specs.declared.table.TableAnswer.{TableAnswer}

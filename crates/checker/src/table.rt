@@ -4,25 +4,25 @@ ghost use Prim.Native.Nat.{_+_, _*_, _≤_, _<_};
 ghost use lib.ListN.{length, getD, replicate};
 ghost use mathlib.Core.List.{[], _∷_};
 ghost use Rattle.stored.specs.Bytes.{inOrder};
-ghost use Rattle.stored.specs.Node.{nodeAt, requirementSorts, sortOf, formula, isFormulaNode};
-ghost use Rattle.stored.specs.Columns.{traceOf};
+ghost use Rattle.stored.specs.Node.{nodeAt, requirementSorts, sortOf, formula};
+ghost use Rattle.traces.specs.Columns.{traceOf};
 ghost use Rattle.stored.specs.Tree.{earlier};
 ghost use Rattle.tables.specs.Table.{standing, Inside, rowAt};
 ghost use Rattle.tables.specs.Ready.{Given};
 ghost use Rattle.checker.specs.Table.{namePlaced, namesPlaced, heeded, placementOf, tableOf, nodeRefusal, answerFor, refusedWith, wordsAfter, tableAnswer, tableRefusal};
 use stored::SheetAnswer;
-use stored::TraceAnswer;
 use stored::layout::LEAST_WORDS;
 use stored::nodes::is_formula_node;
 use stored::sheet::node_part;
 use stored::sheet::read_sheet;
 use stored::sheet::sheet_number;
-use stored::trace::columns;
-use stored::trace::read_trace;
-use stored::trace::trace_number;
 use tables::fill::lay_first;
 use tables::words::clear;
 use tables::words::row_at;
+use traces::TraceAnswer;
+use traces::trace::columns;
+use traces::trace::read_trace;
+use traces::trace::trace_number;
 
 // The number of the refusal, 0 for none, and the rows of the table.
 pub struct TableAnswer {

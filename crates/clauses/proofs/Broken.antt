@@ -12,8 +12,8 @@ use Rattle.semantics.specs.Translation.{shortestOf, unansweredOf, brokenOf}
 use Rattle.stored.specs.Clause.{partsUsed, typeOf}
 use Rattle.stored.specs.Sheet.{headerOf}
 use Rattle.stored.proofs.Accepted.{type-cases}
-use Rattle.emission.specs.Emission.{Ready}
-use Rattle.emission.proofs.Plans.{Tells, tells-within, everywhere-told, longer-told, chop-told, and-told, not-told}
+use Rattle.plans.specs.Emission.{Ready}
+use Rattle.plans.proofs.Plans.{Tells, tells-within, everywhere-told, longer-told, chop-told, and-told, not-told}
 use Rattle.clauses.proofs.Names.{Inside, union-inside, placed-told, once-placed-told}
 
 -- a number that is no type's stands for type 1

@@ -25,12 +25,12 @@ use Rattle.stored.specs.Clause.{storedAt, roleOf, partOf, clauseOf}
 use Rattle.stored.specs.Sheet.{headerOf}
 use Rattle.stored.proofs.Rules.{length-inOrder, getD-inOrder}
 use Rattle.stored.proofs.Accepted.{PartKept, ClauseKept, clause-kept}
-use Rattle.emission.specs.Emission.{count, Step, Has, Emits, Ready}
-use Rattle.emission.specs.Plan.{node, opOr, opNot, Put, Wrote}
+use Rattle.plans.specs.Emission.{count, Step, Has, Emits, Ready}
+use Rattle.plans.specs.Plan.{node, opOr, opNot, Put, Wrote}
 use Rattle.emission.specs.Copying.{Mapped, copyCosts}
-use Rattle.emission.proofs.Steps.{stay, steps, wider, has-kept, put-place}
-use Rattle.emission.proofs.Nodes.{or-new, not-new}
-use Rattle.emission.proofs.Plans.{Tells, told}
+use Rattle.plans.proofs.Steps.{stay, steps, wider, has-kept, put-place}
+use Rattle.plans.proofs.Nodes.{or-new, not-new}
+use Rattle.plans.proofs.Plans.{Tells, told}
 use Rattle.clauses.specs.Clauses.{ClausesIn, brokenIn, clauseAt, clausesAt, clauseCost, requirementCost}
 use Rattle.clauses.proofs.Names.{mask-inside}
 use Rattle.clauses.proofs.Broken.{broken-told}

@@ -18,9 +18,9 @@ use Rattle.stored.specs.Reach.{joint}
 use Rattle.stored.specs.Sheet.{headerOf}
 use Rattle.stored.proofs.Rules.{every-at}
 use Rattle.stored.proofs.Reach.{bit-listed, joint-small}
-use Rattle.emission.specs.Emission.{Ready}
-use Rattle.emission.specs.Plan.{Wrote, there, marked, conjoined, columned}
-use Rattle.emission.proofs.Plans.{Tells, tells-within, once-told, and-told, some-told}
+use Rattle.plans.specs.Emission.{Ready}
+use Rattle.plans.specs.Plan.{Wrote, there, marked, conjoined, columned}
+use Rattle.plans.proofs.Plans.{Tells, tells-within, once-told, and-told, some-told}
 
 -- ---- sets of names as masks
 same-bool : Bool → Bool → Bool

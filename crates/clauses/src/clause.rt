@@ -1,15 +1,15 @@
 // "The clause is broken", by its type: parts D1, D2, D3 as formula nodes f1, f2, f3, with the masks m1, m2, m3 of their names. Each
 // function writes its formula in order, operands first.
 use crate::placing;
-use emission::node;
 use emission::shared;
+use plans::node;
 ghost use Prim.Native.Nat.{_<_};
 ghost use Rattle.semantics.specs.Proposition.{bit};
 ghost use Rattle.semantics.specs.Formula.{at};
 ghost use Rattle.semantics.specs.Clause.{pref, init, anti, implies, follows, triggers};
 ghost use Rattle.semantics.specs.Translation.{shortestOf, unansweredOf, brokenOf};
 ghost use Rattle.stored.specs.Clause.{typeOf};
-ghost use Rattle.emission.specs.Plan.{Wrote};
+ghost use Rattle.plans.specs.Plan.{Wrote};
 
 fn put_pref(out: &mut [u8], f1: usize, m1: usize) -> usize
     ensures { λ r. ⌜ Wrote (now (out .entry)) (now (out .exit)) r (brokenOf pref (at f1) (bit m1) (at f1) (bit m1) (at f1) (bit m1)) ⌝ }

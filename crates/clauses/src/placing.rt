@@ -1,5 +1,5 @@
 // Names placed over a formula.
-use emission::node;
+use plans::node;
 use stored::masks::has_name;
 ghost use mathlib.Core.Path.{_≡_};
 ghost use Prim.Native.Nat.{_<_};
@@ -8,7 +8,7 @@ ghost use Rattle.semantics.specs.Formula.{at};
 ghost use Rattle.semantics.specs.Placement.{noNames};
 ghost use Rattle.semantics.specs.Translation.{placedName, placed, once};
 ghost use Rattle.stored.specs.Reach.{joint};
-ghost use Rattle.emission.specs.Plan.{Wrote};
+ghost use Rattle.plans.specs.Plan.{Wrote};
 
 // Both sets of names.
 pub fn both(a: usize, b: usize) -> usize

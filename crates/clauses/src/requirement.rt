@@ -1,8 +1,8 @@
 // The formula of a requirement: some assumption is broken, or no commitment is.
 use crate::clause;
 use emission::copy;
-use emission::node;
 use emission::shared;
+use plans::node;
 use stored::StoredClause;
 use stored::clauses;
 use stored::masks;
@@ -10,8 +10,8 @@ ghost use mathlib.Core.Path.{_≡_};
 ghost use Prim.Native.Nat.{_+_, _≤_, _<_};
 ghost use Rattle.semantics.specs.Translation.{translation};
 ghost use Rattle.stored.specs.Sheet.{headerOf};
-ghost use Rattle.emission.specs.Emission.{count, Emits, Ready};
-ghost use Rattle.emission.specs.Plan.{Wrote};
+ghost use Rattle.plans.specs.Emission.{count, Emits, Ready};
+ghost use Rattle.plans.specs.Plan.{Wrote};
 ghost use Rattle.emission.specs.Copying.{NodesIn};
 ghost use Rattle.clauses.specs.Clauses.{ClausesIn, brokenIn, clausesAt, requirementCost};
 

@@ -24,12 +24,12 @@ use Rattle.stored.specs.Sheet.{headerOf}
 use Rattle.stored.specs.Written.{nodeIn, NodeFits}
 use Rattle.stored.proofs.Rules.{every-number}
 use Rattle.stored.proofs.Tree.{proposition-cases, formula-cases, operands, proposition-law, formula-law}
-use Rattle.emission.specs.Bound.{mostEmitted, isDrawing, drawingAt}
-use Rattle.emission.specs.Emission.{count, propositionIn, formulaIn, Good, Step, HasProposition, Has, Emits, Ready}
+use Rattle.plans.specs.Bound.{mostEmitted, isDrawing, drawingAt}
+use Rattle.plans.specs.Emission.{count, propositionIn, formulaIn, Good, Step, HasProposition, Has, Emits, Ready}
 use Rattle.emission.specs.Copying.{Stands, Mapped, mappedTo, copiedNode, noPropositions, noFormulas, drawingOf, Copied, byOthers, itself, copyCost, copyCosts, NodesIn}
-use Rattle.emission.proofs.Steps.{stay, steps, wider, has-kept, proposition-kept, ready-kept, Addable, Added, put-added}
-use Rattle.emission.proofs.Nodes.{of-formula, of-proposition, new-proposition, new-formula}
-use Rattle.emission.proofs.Plans.{Tells}
+use Rattle.plans.proofs.Steps.{stay, steps, wider, has-kept, proposition-kept, ready-kept, Addable, Added, put-added}
+use Rattle.plans.proofs.Nodes.{of-formula, of-proposition, new-proposition, new-formula}
+use Rattle.plans.proofs.Plans.{Tells}
 use Rattle.emission.proofs.Drawings.{symbol-told, mark-told, gap-told}
 
 -- ---- sorts

@@ -11,9 +11,9 @@ use Rattle.semantics.specs.Translation.{undrawnSymbol, undrawnMark, undrawnGap}
 use Rattle.semantics.proofs.Tests.{test}
 use Rattle.stored.specs.Sheet.{headerOf}
 use Rattle.stored.specs.Tree.{symbolOf}
-use Rattle.emission.specs.Emission.{Ready}
-use Rattle.emission.proofs.Plans.{Tells, tells-within, everywhere-told, name-told, chop-told, and-told, or-told}
-use Rattle.emission.proofs.Plans.{point-told, stretch-told, unit-told, negated-told, signal-told, exactly-told, no-more-told, no-less-told}
+use Rattle.plans.specs.Emission.{Ready}
+use Rattle.plans.proofs.Plans.{Tells, tells-within, everywhere-told, name-told, chop-told, and-told, or-told}
+use Rattle.plans.proofs.Plans.{point-told, stretch-told, unit-told, negated-told, signal-told, exactly-told, no-more-told, no-less-told}
 
 -- ---- symbols by number: 2 and 3 are one, and a number that is none stands for symbol 0
 pub either-is : (q : ℕ) → q / 2 ≡ 1 → symbolOf q ≡ either

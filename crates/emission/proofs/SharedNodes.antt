@@ -12,11 +12,11 @@ use Rattle.semantics.specs.Translation.{anywhere, extended, nothing}
 use Rattle.semantics.proofs.Tests.{test}
 use Rattle.stored.specs.Sheet.{headerOf}
 use Rattle.stored.specs.Tree.{comparisonOf}
-use Rattle.emission.specs.Bound.{mostEmitted}
-use Rattle.emission.specs.Emission.{count, Good, Step, HasProposition, Has, Emits, Shared}
-use Rattle.emission.specs.Plan.{node, opName, opLength, opCount, qBelow, qEqual, qAtLeast, qAbove, Put}
-use Rattle.emission.proofs.Steps.{steps, has-kept, proposition-kept, shared-kept, put-place}
-use Rattle.emission.proofs.Nodes.{length-new, name-new, count-new}
+use Rattle.plans.specs.Bound.{mostEmitted}
+use Rattle.plans.specs.Emission.{count, Good, Step, HasProposition, Has, Emits, Shared}
+use Rattle.plans.specs.Plan.{node, opName, opLength, opCount, qBelow, qEqual, qAtLeast, qAbove, Put}
+use Rattle.plans.proofs.Steps.{steps, has-kept, proposition-kept, shared-kept, put-place}
+use Rattle.plans.proofs.Nodes.{length-new, name-new, count-new}
 
 -- a length comes as the next node
 record Length (x y : List ℕ) (r q : ℕ) : Type 0 where

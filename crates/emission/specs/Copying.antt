@@ -16,9 +16,9 @@ use Rattle.stored.specs.Tree.{propositionAt, formulaOp, formulaOf, formulaAt}
 use Rattle.stored.specs.Reach.{entryOf}
 use Rattle.stored.specs.Sheet.{headerOf}
 use Rattle.stored.specs.Written.{NodeFits}
-use Rattle.emission.specs.Bound.{isDrawing, drawingAt}
-use Rattle.emission.specs.Emission.{HasProposition, Has}
-use Rattle.emission.specs.Plan.{Put, Wrote}
+use Rattle.plans.specs.Bound.{isDrawing, drawingAt}
+use Rattle.plans.specs.Emission.{HasProposition, Has}
+use Rattle.plans.specs.Plan.{Put, Wrote}
 
 -- node r stands for node i of the sheet, its drawings told by other formulas
 pub record Stands (x : ℕ → Node) (i : ℕ) (y : List ℕ) (r : ℕ) : Type 0 where

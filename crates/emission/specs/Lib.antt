@@ -1,5 +1,2 @@
--- The bound on an emitted formula's nodes, and what the functions that write them promise one another.
-pub mod Bound
-pub mod Emission
-pub mod Plan
+-- What the functions that copy a sheet's nodes promise one another.
 pub mod Copying

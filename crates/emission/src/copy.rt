@@ -1,6 +1,6 @@
 // The sheet's nodes, copied in order.
 use crate::drawing;
-use crate::node;
+use plans::node;
 use stored::Node;
 use stored::layout;
 use stored::masks;
@@ -13,9 +13,9 @@ ghost use lib.ListN.{length};
 ghost use Rattle.stored.specs.Layout.{nodeSize};
 ghost use Rattle.stored.specs.Node.{nodeAt};
 ghost use Rattle.stored.specs.Written.{NodeFits};
-ghost use Rattle.emission.specs.Bound.{mostEmitted, isDrawing};
-ghost use Rattle.emission.specs.Emission.{count, Step, Ready};
-ghost use Rattle.emission.specs.Plan.{Put, Wrote};
+ghost use Rattle.plans.specs.Bound.{mostEmitted, isDrawing};
+ghost use Rattle.plans.specs.Emission.{count, Step, Ready};
+ghost use Rattle.plans.specs.Plan.{Put, Wrote};
 ghost use Rattle.emission.specs.Copying.{Mapped, mappedTo, copiedNode, drawingOf, Copied, copyCosts, NodesIn};
 
 // Field v of a node, used so: an operand is the node that stands for it.

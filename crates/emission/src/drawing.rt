@@ -1,13 +1,13 @@
 // Drawings told by other formulas.
-use crate::node;
 use crate::shared;
+use plans::node;
 use stored::ops;
 ghost use Prim.Native.Nat.{_<_};
 ghost use Rattle.semantics.specs.Proposition.{signal, negated};
 ghost use Rattle.semantics.specs.Formula.{slen, atLeast, steady};
 ghost use Rattle.semantics.specs.Translation.{undrawnSymbol, undrawnMark, undrawnGap};
 ghost use Rattle.stored.specs.Tree.{symbolOf};
-ghost use Rattle.emission.specs.Plan.{WroteProposition, Wrote};
+ghost use Rattle.plans.specs.Plan.{WroteProposition, Wrote};
 
 // That signal k is low.
 fn put_low(out: &mut [u8], k: usize) -> usize

@@ -1,11 +1,11 @@
 // The nodes that are written once, at fixed numbers: three lengths, then for each name u the proposition that it is marked, node
 // 3 + 2u, and that it is marked once on the interval, node 4 + 2u.
-use crate::node;
+use plans::node;
 use stored::ops;
 ghost use mathlib.Core.Path.{_≡_};
 ghost use Prim.Native.Nat.{_+_, _*_, _<_};
 ghost use Rattle.stored.specs.Sheet.{headerOf};
-ghost use Rattle.emission.specs.Emission.{count, Good, Step, Shared, Ready};
+ghost use Rattle.plans.specs.Emission.{count, Good, Step, Shared, Ready};
 
 // Length 0 or more: any interval.
 pub const ANYWHERE: usize = 0;

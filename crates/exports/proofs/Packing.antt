@@ -21,7 +21,7 @@ use Rattle.stored.proofs.Emitted.{emitted-opened}
 use Rattle.checker.specs.declared.check.Place.{Place}
 use Rattle.stored.specs.Output.{writeNumber, writtenLength}
 use Rattle.translator.specs.Refusal.{translateRefusal}
-use Rattle.emission.specs.Bound.{drawingAt, drawings, nodeBound}
+use Rattle.plans.specs.Bound.{drawingAt, drawings, nodeBound}
 use Rattle.translator.specs.Translated.{Translated}
 use Rattle.text.specs.Text.{ReadText}
 use Rattle.text.proofs.Text.{written-fits, refused-small}

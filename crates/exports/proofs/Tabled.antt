@@ -13,7 +13,7 @@ use lib.Seq.{take-all}
 use Rattle.stored.specs.Layout.{leastWords}
 use Rattle.stored.specs.Bytes.{lowest}
 use Rattle.stored.specs.Sheet.{headerOf, sheetRefusal}
-use Rattle.stored.specs.Trace.{traceRefusal}
+use Rattle.traces.specs.Trace.{traceRefusal}
 use Rattle.stored.specs.Tree.{pick}
 use Rattle.stored.proofs.Rules.{length-inOrder}
 use Rattle.checker.specs.declared.table.TableAnswer.{TableAnswer}

@@ -13,9 +13,9 @@ use Rattle.semantics.specs.Verdict as semantics
 use Rattle.semantics.specs.Verdict.{verdict}
 use Rattle.semantics.proofs.Verdict.{broken-first}
 use Rattle.stored.specs.Sheet.{headerOf, clausesOf, sheetRefusal}
-use Rattle.stored.specs.Trace.{cyclesOf, traceRefusal}
+use Rattle.traces.specs.Trace.{cyclesOf, traceRefusal}
 use Rattle.stored.specs.Tree.{pick}
-use Rattle.stored.proofs.Accepted.{trace-opened, cycles-count}
+use Rattle.traces.proofs.Accepted.{trace-opened, cycles-count}
 use Rattle.checker.specs.declared.check.Place.{Place}
 use Rattle.checker.specs.declared.check.Answer.{Answer}
 use Rattle.checker.specs.declared.check.Answer.the-variants.{Refused, Excused, Broken, Holds}

@@ -9,7 +9,7 @@ use Rattle.stored.specs.declared.WriteAnswer.the-variants as writing
 use Rattle.stored.specs.Bytes.{lowest}
 use Rattle.stored.specs.Layout.{leastOutput, leastWords}
 use Rattle.stored.specs.Sheet.{headerOf, nodesOf, sheetRefusal}
-use Rattle.stored.specs.Trace.{cycleCount, cyclesOf, traceRefusal}
+use Rattle.traces.specs.Trace.{cycleCount, cyclesOf, traceRefusal}
 use Rattle.stored.specs.Tree.{pick}
 use Rattle.checker.specs.declared.check.Place.{Place}
 use Rattle.checker.specs.declared.check.Answer.{Answer}

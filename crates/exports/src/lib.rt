@@ -12,7 +12,7 @@ ghost use mathlib.Core.List.{_++_};
 ghost use Prim.Native.Nat.{_*_, _≤_, _<_};
 ghost use lib.ListN.{length, drop};
 ghost use Rattle.stored.specs.Sheet.{headerOf, sheetRefusal};
-ghost use Rattle.stored.specs.Trace.{traceRefusal};
+ghost use Rattle.traces.specs.Trace.{traceRefusal};
 ghost use Rattle.checker.specs.Check.{checkAnswer, checkRefusal};
 ghost use Rattle.checker.specs.Table.{orElse, wordsAfter};
 ghost use Rattle.translator.specs.Translated.{Translated};

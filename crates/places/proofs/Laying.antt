@@ -3,7 +3,7 @@ use Prim.Native.Nat.{ℕ, _-_, _≤_, _<_}
 use native.Mathlib.Omega.{arith}
 use mathlib.Core.Bool.{Bool, true, false, _&&_, _||_}
 use mathlib.Core.List.{List}
-use mathlib.Core.Path.{_≡_, refl, sym, ap, subst, _∙_}
+use mathlib.Core.Path.{_≡_, sym, ap, subst, _∙_}
 use lib.ListN.{length, getD, replicate, getD-replicate}
 use Rattle.semantics.specs.Proposition.{Trace, bit}
 use Rattle.semantics.specs.Formula.{holds}
@@ -14,25 +14,24 @@ use Rattle.rows.specs.Row.{row, shortestOf}
 use Rattle.rows.proofs.Bits.{bit-nothing}
 use Rattle.rows.proofs.Rows.{row-at}
 use Rattle.rows.proofs.Cuts.{shortest-row}
-use Rattle.stored.specs.Columns.{IsColumns, traceOf}
 use Rattle.stored.specs.Node.{nodeAt}
 use Rattle.stored.specs.Tree.{formulaAt}
 use Rattle.stored.specs.Clause.{partOf}
 use Rattle.tables.specs.Table.{standing, Inside, rowAt, Table, Tables}
-use Rattle.tables.specs.Ready.{Ready, withNames}
+use Rattle.tables.specs.Ready.{withNames}
 use Rattle.tables.proofs.Columns.{names-columns, names-told}
 use Rattle.tables.proofs.Fills.{ready-other}
 use Rattle.tables.proofs.Moves.{table-placed}
 use Rattle.places.specs.declared.task.Task.{Task}
-use Rattle.places.specs.Search.{inside, onInside, shortInside, answered, premised, missed}
-use Rattle.places.specs.Places.{numbered, IsLeast}
-use Rattle.places.specs.Rows.{typeOf, testOf}
-use Rattle.places.specs.Gather.{cutTo, gathered, Adds, Ends}
+use Rattle.intervals.specs.Search.{inside, onInside, shortInside, answered, premised, missed}
+use Rattle.intervals.specs.Places.{numbered, IsLeast}
+use Rattle.intervals.specs.Rows.{typeOf, testOf}
+use Rattle.intervals.specs.Gather.{cutTo, gathered, Adds, Ends}
 use Rattle.places.specs.Task.{missedTask}
 use Rattle.places.specs.Laid.{Laid, IsFormula, Formulas, replyOn, missedOn, overLast}
-use Rattle.places.proofs.Found.{missed-fewer, missed-premise}
+use Rattle.intervals.proofs.Found.{missed-fewer, missed-premise}
 use Rattle.places.proofs.Loops.{missed-least}
-use Rattle.places.proofs.Places.{least-stay, numbered-fewer, numbered-false}
+use Rattle.intervals.proofs.Places.{least-stay, numbered-fewer, numbered-false}
 
 -- ---- names laid on other cycles
 module _ {nodes reach : List ℕ} {count n : ℕ} {σ : Trace} where

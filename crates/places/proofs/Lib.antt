@@ -1,9 +1,4 @@
--- Laws of the search and of the rows that it reads.
-pub mod Outside
-pub mod Places
-pub mod Found
-pub mod Searching
-pub mod Gathered
+-- Laws of a clause's task and of the walk over placements.
 pub mod Loops
 pub mod Tasks
 pub mod Laying

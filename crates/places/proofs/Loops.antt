@@ -17,14 +17,14 @@ use Rattle.semantics.specs.Clause.{ClauseType, pref, init, anti, implies, follo
 use Rattle.semantics.proofs.Tests.{same, test, or-false}
 use Rattle.semantics.proofs.Cycles.{some-intro, some-elim, some-none, some-cong}
 use Rattle.semantics.proofs.Placement.{moved-same}
-use Rattle.tables.specs.Table.{standing, Inside}
+use Rattle.tables.specs.Table.{standing}
 use Rattle.places.specs.declared.walk.Job.{Job}
-use Rattle.places.specs.Search.{missed}
-use Rattle.places.specs.Places.{numbered, IsLeast}
-use Rattle.places.specs.Rows.{testOf}
-use Rattle.places.specs.Gather.{Adds}
+use Rattle.intervals.specs.Search.{missed}
+use Rattle.intervals.specs.Places.{numbered, IsLeast}
+use Rattle.intervals.specs.Rows.{testOf}
+use Rattle.intervals.specs.Gather.{Adds}
 use Rattle.places.specs.Laid.{Walked, overLast, missedOn, replyOn, lowOf, lastOf}
-use Rattle.places.proofs.Places.{least-ext, least-stay, least-then, some-step, numbered-same}
+use Rattle.intervals.proofs.Places.{least-ext, least-stay, least-then, some-step, numbered-same}
 
 -- one name put on a cycle
 pub moved-standing : (cycles : List ℕ) (u t : ℕ) → u < length cycles → moved u t (standing cycles) ≡ standing (set cycles u t)

@@ -21,15 +21,15 @@ use Rattle.stored.specs.Clause as stored
 use Rattle.stored.specs.Clause.{clauseOf}
 use Rattle.stored.specs.Clause.{partOf}
 use Rattle.stored.proofs.Accepted.{type-cases}
-use Rattle.places.specs.declared.search.ClauseType.{ClauseType}
+use Rattle.intervals.specs.declared.search.ClauseType.{ClauseType}
 use Rattle.places.specs.declared.task.Task.{Task}
 use Rattle.tables.specs.Table.{standing}
-use Rattle.places.specs.Search.{without, quantified, premise, reply, onInside, shortInside, answered, missed, missedBy}
-use Rattle.places.specs.Places.{numbered, IsLeast}
-use Rattle.places.specs.Rows.{typeOf}
+use Rattle.intervals.specs.Search.{without, quantified, premise, reply, onInside, shortInside, answered, missed, missedBy}
+use Rattle.intervals.specs.Places.{numbered, IsLeast}
+use Rattle.intervals.specs.Rows.{typeOf}
 use Rattle.places.specs.Task.{typeNumbered, taskOf, missedTask}
-use Rattle.places.proofs.Outside.{breaks-out, and-placement}
-use Rattle.places.proofs.Places.{least-ext, numbered-same}
+use Rattle.intervals.proofs.Outside.{breaks-out, and-placement}
+use Rattle.intervals.proofs.Places.{least-ext, numbered-same}
 use Rattle.places.proofs.Loops.{unplaced-stands}
 
 pub same-task : {type type′ : ClauseType} {premise premise′ premises premises′ third third′ thirds thirds′ reply reply′ replies replies′ quantified quantified′ rest rest′ : ℕ}

@@ -1,5 +1,5 @@
 -- What the functions of a walk hand one another.
-use Prim.Native.Nat.{ℕ, zero, suc, _+_, _-_, _*_, _≤_, _<_}
+use Prim.Native.Nat.{ℕ, suc, _+_, _-_, _*_, _≤_, _<_}
 use native.Mathlib.Omega.{arith}
 use mathlib.Core.Bool.{Bool, true, false, cond, _&&_, false≢true}
 use mathlib.Core.List.{List}
@@ -13,21 +13,21 @@ use Rattle.semantics.specs.Cycles.{someFrom}
 use Rattle.semantics.specs.Proposition.{Trace, bit}
 use Rattle.semantics.specs.Placement.{Placement, marks}
 use Rattle.semantics.proofs.Tests.{test, and-left, and-right}
-use Rattle.stored.specs.Columns.{traceOf}
+use Rattle.traces.specs.Columns.{traceOf}
 use Rattle.stored.specs.Node.{nodeAt}
-use Rattle.tables.specs.Table.{standing, Inside, Table, Tables}
+use Rattle.tables.specs.Table.{standing, Table, Tables}
 use Rattle.tables.specs.Ready.{withNames}
 use Rattle.places.specs.declared.task.Task.{Task}
 use Rattle.places.specs.declared.walk.Job.{Job}
 use Rattle.places.specs.declared.walk.Spot.{Spot}
-use Rattle.places.specs.Gather.{gathered, Adds, Ends}
-use Rattle.places.specs.Places.{numbered, IsLeast}
-use Rattle.places.specs.Rows.{typeOf, testOf}
-use Rattle.places.specs.Search.{premised, missed}
-use Rattle.places.specs.Laid.{Laid, Formulas, IsFormula, Walkable, Unneeded, Walked, withNext, overLast, missedOn, replyOn, lowOf, lastOf}
-use Rattle.places.proofs.Laying.{laid-again, laid-placed, replies-added, none-premised, place-least, place-none}
+use Rattle.intervals.specs.Gather.{gathered, Adds, Ends}
+use Rattle.intervals.specs.Places.{numbered, IsLeast}
+use Rattle.intervals.specs.Rows.{typeOf, testOf}
+use Rattle.intervals.specs.Search.{premised, missed}
+use Rattle.places.specs.Laid.{Laid, IsFormula, Walkable, Unneeded, Walked, withNext, overLast, missedOn, replyOn, lowOf, lastOf}
+use Rattle.places.proofs.Laying.{laid-again, laid-placed, none-premised, place-least, place-none}
 use Rattle.places.proofs.Loops.{level, walked-ext}
-use Rattle.places.proofs.Places.{least-stay}
+use Rattle.intervals.proofs.Places.{least-stay}
 
 -- tables laid for the cycles of a spot
 pub record Placed (nodes : List ℕ) (count n : ℕ) (reach : List ℕ) (σ : Trace) (cycles columns words : List ℕ) : Type 0 where

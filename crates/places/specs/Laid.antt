@@ -1,12 +1,12 @@
 -- The state of a walk over placements, and what it finds.
-use Prim.Native.Nat.{ℕ, zero, suc, _+_, _-_, _≤_, _<_}
+use Prim.Native.Nat.{ℕ, zero, suc, _-_, _≤_, _<_}
 use mathlib.Core.Bool.{Bool, true, false, cond}
 use mathlib.Core.List.{List}
 use mathlib.Core.Path.{_≡_}
 use lib.ListN.{length, set}
 use Rattle.semantics.specs.Proposition.{Trace, bit}
 use Rattle.semantics.specs.Placement.{Names, Placement, noNames, placeName}
-use Rattle.stored.specs.Columns.{traceOf}
+use Rattle.traces.specs.Columns.{traceOf}
 use Rattle.stored.specs.Node.{nodeAt, requirementSorts, sortOf, formula}
 use Rattle.stored.specs.Clause.{partOf}
 use Rattle.tables.specs.Table.{standing, Inside, Tables}
@@ -14,9 +14,9 @@ use Rattle.tables.specs.Ready.{Ready}
 use Rattle.places.specs.declared.task.Task.{Task}
 use Rattle.places.specs.declared.walk.Job.{Job}
 use Rattle.places.specs.declared.walk.Spot.{Spot}
-use Rattle.places.specs.Gather.{Adds}
-use Rattle.places.specs.Search.{onInside}
-use Rattle.places.specs.Places.{numbered, IsLeast}
+use Rattle.intervals.specs.Gather.{Adds}
+use Rattle.intervals.specs.Search.{onInside}
+use Rattle.intervals.specs.Places.{numbered, IsLeast}
 use Rattle.places.specs.Task.{missedTask}
 
 -- the words are right for the columns, which tell the trace σ

@@ -1,6 +1,3 @@
-pub mod Search
-pub mod Places
-pub mod Rows
-pub mod Gather
+-- A clause's task, and the walk over placements.
 pub mod Task
 pub mod Laid

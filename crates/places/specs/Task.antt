@@ -10,11 +10,11 @@ use Rattle.semantics.specs.Placement.{Placement}
 use Rattle.stored.specs.declared.Node.{Node}
 use Rattle.stored.specs.declared.StoredClause.{StoredClause}
 use Rattle.stored.specs.Clause.{partOf}
-use Rattle.places.specs.declared.search.ClauseType.{ClauseType}
-use Rattle.places.specs.declared.search.ClauseType.the-variants.{Pref, Init, Anti, Implies, Follows, Triggers}
+use Rattle.intervals.specs.declared.search.ClauseType.{ClauseType}
+use Rattle.intervals.specs.declared.search.ClauseType.the-variants.{Pref, Init, Anti, Implies, Follows, Triggers}
 use Rattle.places.specs.declared.task.Task.{Task}
-use Rattle.places.specs.Search.{onInside, shortInside, answered, missed}
-use Rattle.places.specs.Rows.{typeOf}
+use Rattle.intervals.specs.Search.{onInside, shortInside, answered, missed}
+use Rattle.intervals.specs.Rows.{typeOf}
 
 -- types by their numbers, 1 to 6
 unfoldable pub typeNumbered : ℕ → ClauseType

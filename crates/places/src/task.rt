@@ -1,6 +1,6 @@
 // What the check does for one clause.
-use crate::choice::choose;
-use crate::search::ClauseType;
+use intervals::choice::choose;
+use intervals::search::ClauseType;
 use stored::StoredClause;
 ghost use mathlib.Core.Path.{_≡_};
 ghost use Prim.Native.Nat.{_≤_};

@@ -1,10 +1,10 @@
 // The walk over placements: every cycle for each name that a clause quantifies universally and, within, for each name of its answer
 // that is left. It looks for the first broken place, and only before the best one so far.
-use crate::choice::choose;
-use crate::gather::add;
-use crate::search::ClauseType;
-use crate::search::search;
 use crate::task::Task;
+use intervals::choice::choose;
+use intervals::gather::add;
+use intervals::search::ClauseType;
+use intervals::search::search;
 use stored::masks::has_name;
 use tables::fill::lay;
 use tables::words::clear;
@@ -13,13 +13,13 @@ ghost use mathlib.Core.Bool.{true};
 ghost use Prim.Native.Nat.{_<_, _≤_};
 ghost use lib.ListN.{length};
 ghost use Rattle.semantics.specs.Proposition.{bit};
-ghost use Rattle.stored.specs.Columns.{traceOf};
+ghost use Rattle.traces.specs.Columns.{traceOf};
 ghost use Rattle.tables.specs.Table.{standing};
-ghost use Rattle.places.specs.Gather.{Adds};
+ghost use Rattle.intervals.specs.Gather.{Adds};
 ghost use Rattle.places.specs.Laid.{Laid, Walkable, Unneeded, Walked, withNext, overLast, replyOn, missedOn};
-ghost use Rattle.places.specs.Places.{IsLeast};
-ghost use Rattle.places.specs.Rows.{typeOf};
-ghost use Rattle.places.specs.Search.{premised};
+ghost use Rattle.intervals.specs.Places.{IsLeast};
+ghost use Rattle.intervals.specs.Rows.{typeOf};
+ghost use Rattle.intervals.specs.Search.{premised};
 
 // Which names are placed and where: the last ones, as many as are left, are not yet.
 pub struct Spot {

@@ -9,9 +9,9 @@ use lib.Seq.{take-all}
 use Rattle.stored.specs.Layout.{leastWords}
 use Rattle.stored.specs.Bytes.{word, lowest}
 use Rattle.stored.specs.Sheet.{headerOf, nodesOf, sheetRefusal}
-use Rattle.stored.specs.Trace.{cycleCount, cyclesOf, traceRefusal}
+use Rattle.traces.specs.Trace.{cycleCount, cyclesOf, traceRefusal}
 use Rattle.checker.specs.Table.{orElse, wordsRefusal, nodeRefusal, tableRefusal, tableAnswer, answerFor, tableOf, placementOf}
-use Rattle.printed.specs.Input.{splitAt, sheetOf, traceOf}
+use Rattle.lines.specs.Input.{splitAt, sheetOf, traceOf}
 use Rattle.checker.specs.Check.{checkRefusal, checkAnswer}
 use Rattle.printed.specs.Page.{answerTo}
 use Rattle.printed.specs.Line as line

@@ -1,5 +1,4 @@
--- Laws of texts and answers.
-pub mod Copies
-pub mod Texts
+-- Laws of what the programs print.
+pub mod Shown
 pub mod Answers
 pub mod Outputs

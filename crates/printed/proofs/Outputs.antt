@@ -7,7 +7,7 @@ use native.Mathlib.Omega.{arith}
 use borrow.Author.Tests.{eqb-true, le-ltb}
 use lib.Dec.{eqb, ltb}
 use lib.ListN.{length, take, drop, replicate, length-take, length-replicate}
-use lib.Seq.{sets, sets-eq, take-at, length-sets}
+use lib.Seq.{sets-eq, take-at, length-sets}
 use Rattle.stored.specs.declared.WriteAnswer.{WriteAnswer}
 use Rattle.stored.specs.declared.WriteAnswer.the-variants.{Written, Refused}
 use Rattle.stored.specs.Layout.{leastOutput}
@@ -22,12 +22,12 @@ use Rattle.text.proofs.Text.{written-fits, refused-small}
 use Rattle.translator.specs.Refusal.{translateRefusal}
 use Rattle.translator.specs.Translated.{FormulaOf, Translated}
 use Rattle.translator.proofs.Translating.{number-told}
-use Rattle.printed.specs.declared.output.Output.{Output}
-use Rattle.printed.specs.Lines.{refusedText, Put}
-use Rattle.printed.specs.Output.{outputOf, SmallAnswer}
+use Rattle.lines.specs.declared.output.Output.{Output}
+use Rattle.lines.specs.Lines.{refusedText}
+use Rattle.lines.specs.Output.{outputOf, SmallAnswer}
 use Rattle.printed.specs.Formula.{OutputOf}
 use Rattle.printed.specs.Sheet.{mostText, saidFor, Answered, SheetOutput}
-use Rattle.printed.proofs.Texts.{put-size, refused-length}
+use Rattle.lines.proofs.Texts.{refused-length}
 
 -- the line of a refusal in bytes enough
 pub record LineIn (number : ℕ) (bytes : List ℕ) (r : Output) : Type 0 where

@@ -6,8 +6,8 @@ use lib.ListN.{length, take, drop, replicate}
 use Rattle.stored.specs.Layout.{leastOutput}
 use Rattle.stored.specs.Sheet.{sheetRefusal}
 use Rattle.translator.specs.Translated.{FormulaOf}
-use Rattle.printed.specs.declared.output.Output.{Output}
-use Rattle.printed.specs.Lines.{refusedText}
+use Rattle.lines.specs.declared.output.Output.{Output}
+use Rattle.lines.specs.Lines.{refusedText}
 
 -- r's bytes up to its length are the formula of sheet s or the line of its refusal, and zero from there on
 pub record OutputOf (s : List ℕ) (r : Output) : Type 0 where

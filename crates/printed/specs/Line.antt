@@ -8,8 +8,8 @@ use Rattle.checker.specs.declared.check.Answer.{Answer}
 use Rattle.checker.specs.declared.check.Answer.the-variants.{Refused, Excused, Broken, Holds}
 use Rattle.checker.specs.Check.{checkAnswer}
 use Rattle.printed.specs.declared.line.Line.{Line}
-use Rattle.printed.specs.Input.{sheetOf, traceOf}
-use Rattle.printed.specs.Lines.{lineWith, refusedText, padded}
+use Rattle.lines.specs.Input.{sheetOf, traceOf}
+use Rattle.lines.specs.Lines.{lineWith, refusedText, padded}
 
 abbrev pub brokenWord : List ℕ
 brokenWord = 66 ∷ 82 ∷ 79 ∷ 75 ∷ 69 ∷ 78 ∷ []

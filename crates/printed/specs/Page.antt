@@ -10,8 +10,8 @@ use Rattle.stored.specs.Tree.{pick}
 use Rattle.checker.specs.declared.table.TableAnswer.{TableAnswer}
 use Rattle.checker.specs.Table.{tableAnswer}
 use Rattle.printed.specs.declared.page.Page.{Page}
-use Rattle.printed.specs.Input.{sheetOf, traceOf}
-use Rattle.printed.specs.Lines.{refusedText, padded}
+use Rattle.lines.specs.Input.{sheetOf, traceOf}
+use Rattle.lines.specs.Lines.{refusedText, padded}
 
 -- 0 to 9, a to f
 unfoldable pub glyphOf : ℕ → ℕ

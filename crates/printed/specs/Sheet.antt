@@ -7,8 +7,8 @@ use Rattle.stored.specs.declared.WriteAnswer.{WriteAnswer}
 use Rattle.stored.specs.declared.WriteAnswer.the-variants.{Written, Refused}
 use Rattle.stored.specs.Layout.{leastOutput}
 use Rattle.text.specs.Text.{ReadText}
-use Rattle.printed.specs.declared.output.Output.{Output}
-use Rattle.printed.specs.Lines.{refusedText}
+use Rattle.lines.specs.declared.output.Output.{Output}
+use Rattle.lines.specs.Lines.{refusedText}
 
 -- the most bytes of text that the program holds
 abbrev pub mostText : ℕ

@@ -1,7 +1,7 @@
 // What the formula program writes.
 ghost use Rattle.printed.specs.Formula.{OutputOf};
-use crate::output;
-use crate::output::Output;
+use lines::output;
+use lines::output::Output;
 use translator::translate;
 
 // What the formula program writes for its input, all of which is the sheet.

@@ -3,14 +3,14 @@ ghost use mathlib.Core.Path.{_≡_};
 ghost use Prim.Native.Nat.{_≤_};
 ghost use lib.ListN.{length, replicate};
 ghost use Rattle.checker.specs.Small.{Small};
-ghost use Rattle.printed.specs.Lines.{Put};
+ghost use Rattle.lines.specs.Lines.{Put};
 ghost use Rattle.printed.specs.Line.{lineText, lineOf, lineFor, answerFor};
-use crate::input::lent_words;
-use crate::input::split;
-use crate::lines::put_line;
-use crate::lines::put_refused;
 use checker::check::Answer;
 use checker::check::check;
+use lines::input::lent_words;
+use lines::input::split;
+use lines::lines::put_line;
+use lines::lines::put_refused;
 
 // A text and its length.
 pub struct Line {

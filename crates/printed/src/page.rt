@@ -3,13 +3,13 @@ ghost use mathlib.Core.Path.{_≡_};
 ghost use Prim.Native.Nat.{_+_, _<_, _≤_};
 ghost use lib.ListN.{length, drop, replicate};
 ghost use Rattle.printed.specs.Page.{glyphOf, rowByte, tableText, textOf, pageOf, answerTo, printedFor};
-use crate::input::byte_at;
-use crate::input::lent_words;
-use crate::input::split;
-use crate::input::word_at;
-use crate::lines::put_refused;
 use checker::table::TableAnswer;
 use checker::table::table;
+use lines::input::byte_at;
+use lines::input::lent_words;
+use lines::input::split;
+use lines::input::word_at;
+use lines::lines::put_refused;
 
 // A text and its length.
 pub struct Page {

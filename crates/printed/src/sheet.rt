@@ -1,7 +1,7 @@
 // What the text program writes.
 ghost use Rattle.printed.specs.Sheet.{SheetOutput};
-use crate::output;
-use crate::output::Output;
+use lines::output;
+use lines::output::Output;
 use text::read::read_text;
 
 // The most bytes of text that the program holds, and one more, by which it knows a longer one.

@@ -1,5 +1,5 @@
 -- Laws of the tests over cycles and over columns: from a witness, to a witness, and by agreement of the tests.
-use Prim.Native.Nat.{ℕ, zero, suc, _+_, _-_, _≤_, _<_}
+use Prim.Native.Nat.{ℕ, zero, suc, _+_, _≤_, _<_}
 use native.Mathlib.Omega.{arith}
 use native.Mathlib.Nat.{le-of-suc-le-suc, not-suc-le-zero, eq-or-lt-of-le}
 use mathlib.Core.Bool.{Bool, true, false, not, cond, _&&_, _||_, false≢true}
@@ -8,9 +8,9 @@ use mathlib.Core.Logic.{_⊎_, inl, inr}
 use mathlib.Core.Path.{_≡_, refl, sym, ap, ap₂, subst, _∙_}
 use lib.Dec.{leb}
 use lib.ListN.{getD}
-use borrow.Author.Tests.{leb-true, leb-false, le-leb}
+use borrow.Author.Tests.{leb-true, le-leb}
 use Rattle.semantics.specs.Cycles.{someBelow, someFrom, countBelow, countFrom, firstBelow, someColumn}
-use Rattle.semantics.proofs.Tests.{same, test, and-intro, and-left, and-right, or-left, or-right, or-elim, is-false, false-not}
+use Rattle.semantics.proofs.Tests.{same, and-intro, and-left, and-right, or-left, or-right, or-elim, is-false, false-not}
 
 -- a cycle at or after b and before e that passes
 pub record Witness (b e : ℕ) (p : ℕ → Bool) : Type 0 where

@@ -1,7 +1,7 @@
 -- The QDDC formula of a requirement, as a tree. Document 004, section 2.3, gives such a translation; this one differs where document 01,
 -- "Traps in the published text", says that it must. That it means the requirement is not to be believed but proved: proofs/Agreement.antt.
 use Prim.Native.Nat.{ℕ}
-use mathlib.Core.Bool.{true, false, not, cond, _&&_}
+use mathlib.Core.Bool.{not, cond, _&&_}
 use mathlib.Core.List.{List, [], _∷_}
 use Rattle.semantics.specs.Proposition.{signal, name, negated}
 use Rattle.semantics.specs.Formula.{Formula, point, stretch, whole, unit, chop, conjunction, disjunction, star, slen, scount, sdur, drawn, at, gap, negation, forSome}

@@ -13,10 +13,10 @@ use Rattle.semantics.specs.Verdict.{requirement, isBroken, verdict}
 use Rattle.semantics.proofs.Tests.{not-not}
 use Rattle.semantics.proofs.Verdict.{broken-exactly}
 use Rattle.stored.specs.Sheet.{headerOf, sheetRefusal, clausesOf, requirementOf}
-use Rattle.stored.specs.Trace.{cyclesOf, traceRefusal}
+use Rattle.traces.specs.Trace.{cyclesOf, traceRefusal}
 use Rattle.stored.specs.Emitted.{emittedTrue}
 use Rattle.stored.specs.Tree.{pick}
-use Rattle.stored.proofs.Accepted.{trace-opened, cycles-count}
+use Rattle.traces.proofs.Accepted.{trace-opened, cycles-count}
 use Rattle.checker.specs.declared.check.Answer.{Answer}
 use Rattle.checker.specs.Table.{orElse, wordsRefusal}
 use Rattle.checker.specs.Check.{told, checkRefusal, checkAnswer}

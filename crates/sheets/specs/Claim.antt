@@ -6,7 +6,7 @@ use mathlib.Core.Path.{_≡_}
 use lib.ListN.{length, take}
 use Rattle.semantics.specs.Proposition.{Trace}
 use Rattle.stored.specs.Sheet.{headerOf, requirementOf}
-use Rattle.stored.specs.Trace.{cyclesOf}
+use Rattle.traces.specs.Trace.{cyclesOf}
 use Rattle.stored.specs.Emitted.{isEmitted, emittedTrue}
 use Rattle.checker.specs.declared.check.Answer.{Answer}
 use Rattle.checker.specs.declared.check.Answer.the-variants.{Refused, Excused, Broken, Holds}
@@ -14,7 +14,7 @@ use Rattle.checker.specs.Check.{checkRefusal}
 use Rattle.stored.specs.declared.WriteAnswer.{WriteAnswer}
 use Rattle.stored.specs.Output.{writtenLength}
 use Rattle.translator.specs.Refusal.{translateRefusal}
-use Rattle.emission.specs.Bound.{nodeBound}
+use Rattle.plans.specs.Bound.{nodeBound}
 
 -- the check says Broken; it says another verdict
 unfoldable pub saysBroken : Answer → Bool

@@ -1,5 +1,5 @@
--- What acceptance says, opened into one record, and what crates above need of an accepted sheet or trace.
-use Prim.Native.Nat.{ℕ, zero, suc, _+_, _*_, _^_, _≤_, _<_}
+-- What acceptance says, opened into one record, and what crates above need of an accepted sheet.
+use Prim.Native.Nat.{ℕ, zero, suc, _*_, _^_, _≤_, _<_}
 use mathlib.Core.Bool.{Bool, true, false, _&&_, false≢true}
 use mathlib.Core.List.{List}
 use mathlib.Core.Logic.{inl, inr}
@@ -8,7 +8,7 @@ use native.Mathlib.Nat.{pow-le-pow-right}
 use native.Mathlib.Omega.{arith}
 use borrow.Author.Tests.{ltb-true, leb-true, eqb-true}
 use lib.Dec.{leb, ltb, eqb}
-use lib.ListN.{length, getD, length-take, length-drop}
+use lib.ListN.{length, length-take, length-drop}
 use Rattle.stored.specs.Layout.{clausesEnd, nodeSize, clauseSize}
 use Rattle.semantics.specs.Proposition.{bit}
 use Rattle.semantics.specs.Clause.{Part, Clause}
@@ -17,16 +17,13 @@ use Rattle.stored.specs.declared.Node.{Node}
 use Rattle.stored.specs.declared.StoredClause.{StoredClause}
 use Rattle.stored.specs.declared.Header.{Header}
 use Rattle.stored.specs.declared.SheetAnswer.the-variants.{Accepted, Refused}
-use Rattle.stored.specs.declared.TraceAnswer.{TraceAnswer}
-use Rattle.stored.specs.declared.TraceAnswer.the-variants.{Cycles}
 use Rattle.stored.specs.Bytes.{inOrder}
 use Rattle.stored.specs.Node.{requirementSorts, isFormulaNode, nodeRight}
 use Rattle.stored.specs.Tree.{pick, formulaAt}
 use Rattle.stored.specs.Clause.{partsUsed, partRight, clauseRight, partNamed, clauseNamed, clauseRightAt, clauseNamedAt, typeOf, partOf, clauseOf}
 use Rattle.stored.specs.Sheet.{headerOf, nodePart, clausePart, nodesOf, storedOf, counted, sized, nodesRight, operandsFound, clausesRight, clausesNamed, sheetRules, sheetRefusal, sheetAnswer, sheetNumber, clauseIn, clausesOf}
-use Rattle.stored.specs.Trace.{cycleCount, cycleAt, cycleRight, cyclesRight, traceRules, traceRefusal, traceAnswer, traceNumber, cyclesOf}
 use Rattle.semantics.proofs.Tests.{and-left, and-right, and-intro}
-use Rattle.stored.proofs.Rules.{every-at, lowest-kept, Lowest, lowest-law, length-inOrder, getD-inOrder}
+use Rattle.stored.proofs.Rules.{every-at, lowest-kept, Lowest, lowest-law}
 use Rattle.stored.proofs.Tree.{Earlier, sort-below}
 use Rattle.stored.proofs.Reach.{NodesKept, bit-listed}
 
@@ -253,53 +250,12 @@ accepted-fits s o =
     all-fit (headerOf s .clauses) (clauseIn s)
     (λ k l. clause-fits (nodesOf s) (headerOf s .nodes) (headerOf s .names) (storedOf s k) (o .in-range .few-names) (clauses-kept s o k l))
 
--- a trace to which none of the numbers 10 to 13 applies
-pub record TraceOpened (s : ℕ) (t : List ℕ) : Type 0 where
-  pub some-cycles : 1 ≤ cycleCount t
-  pub few-cycles : cycleCount t ≤ 64
-  pub trace-long : length t ≡ 4 + 2 * cycleCount t
-  pub cycle-small : (i : ℕ) → i < cycleCount t → cycleAt t i < 2 ^ s
-
-pub trace-opened : (s : ℕ) (t : List ℕ) → traceRefusal s t ≡ 0 → TraceOpened s t
-unfolding traceRefusal traceRules cyclesRight cycleRight
-trace-opened s t e =
-    let r₁₀ = lowest-kept 10 _ _ (omega arith) e in
-    let r₁₁ = lowest-kept 11 _ _ (omega arith) (r₁₀ .1) in
-    let r₁₂ = lowest-kept 12 _ _ (omega arith) (r₁₁ .1) in
-    let r₁₃ = lowest-kept 13 _ _ (omega arith) (r₁₂ .1) in
-    let whole = eqb (length t) (4 + 2 * cycleCount t) in
-    let most = leb 1 (cycleCount t) && leb (cycleCount t) 64 in
-    let rest = and-right whole _ (r₁₃ .0) in
-    let range = and-left most _ rest in
-    record {
-      some-cycles = leb-true 1 (cycleCount t) (and-left (leb 1 (cycleCount t)) _ range);
-      few-cycles = leb-true (cycleCount t) 64 (and-right (leb 1 (cycleCount t)) _ range);
-      trace-long = eqb-true (length t) (4 + 2 * cycleCount t) (and-left whole _ (r₁₃ .0));
-      cycle-small = λ i h. ltb-true (cycleAt t i) (2 ^ s) (every-at (cycleCount t) (cycleRight s t) (and-right most _ rest) i h);
-    }
-
-pub cycles-accepted : (s : ℕ) (t : List ℕ) (n : ℕ) → traceAnswer s t ≡ Cycles n → (traceRefusal s t ≡ 0) × (cycleCount t ≡ n)
-unfolding traceAnswer pick
-cycles-accepted s t n e = go (eqb (traceRefusal s t) 0) refl e
-  where
-    go : (b : Bool) → eqb (traceRefusal s t) 0 ≡ b → pick b (Cycles (cycleCount t)) (TraceAnswer.Refused (traceRefusal s t)) ≡ Cycles n → (traceRefusal s t ≡ 0) × (cycleCount t ≡ n)
-    go true p q = (eqb-true (traceRefusal s t) 0 p, (cc))
-    go false p q = absurd (let z : _≡_ {A = ℕ} 0 1 = cc in omega arith)
-
--- a refused sheet or trace has the refusal's number
+-- a refused sheet has the refusal's number
 pub answer-refused : (s : List ℕ) (k : ℕ) → sheetAnswer s ≡ Refused k → (eqb (sheetRefusal s) 0 ≡ false) × (sheetRefusal s ≡ k)
 unfolding sheetAnswer pick
 answer-refused s k e = go (eqb (sheetRefusal s) 0) refl e
   where
     go : (b : Bool) → eqb (sheetRefusal s) 0 ≡ b → pick b (Accepted (headerOf s)) (Refused (sheetRefusal s)) ≡ Refused k → (eqb (sheetRefusal s) 0 ≡ false) × (sheetRefusal s ≡ k)
-    go true p q = absurd (let z : _≡_ {A = ℕ} 0 1 = cc in omega arith)
-    go false p q = (p, (cc))
-
-pub cycles-refused : (s : ℕ) (t : List ℕ) (k : ℕ) → traceAnswer s t ≡ TraceAnswer.Refused k → (eqb (traceRefusal s t) 0 ≡ false) × (traceRefusal s t ≡ k)
-unfolding traceAnswer pick
-cycles-refused s t k e = go (eqb (traceRefusal s t) 0) refl e
-  where
-    go : (b : Bool) → eqb (traceRefusal s t) 0 ≡ b → pick b (Cycles (cycleCount t)) (TraceAnswer.Refused (traceRefusal s t)) ≡ TraceAnswer.Refused k → (eqb (traceRefusal s t) 0 ≡ false) × (traceRefusal s t ≡ k)
     go true p q = absurd (let z : _≡_ {A = ℕ} 0 1 = cc in omega arith)
     go false p q = (p, (cc))
 
@@ -311,22 +267,6 @@ sheet-number s = go (eqb (sheetRefusal s) 0) refl
     go : (b : Bool) → eqb (sheetRefusal s) 0 ≡ b → sheetNumber (pick b (Accepted (headerOf s)) (Refused (sheetRefusal s))) ≡ sheetRefusal s
     go true e = sym (eqb-true (sheetRefusal s) 0 e)
     go false e = refl
-
-pub trace-number : (s : ℕ) (t : List ℕ) → traceNumber (traceAnswer s t) ≡ traceRefusal s t
-unfolding traceAnswer traceNumber pick
-trace-number s t = go (eqb (traceRefusal s t) 0) refl
-  where
-    go : (b : Bool) → eqb (traceRefusal s t) 0 ≡ b → traceNumber (pick b (Cycles (cycleCount t)) (TraceAnswer.Refused (traceRefusal s t))) ≡ traceRefusal s t
-    go true e = sym (eqb-true (traceRefusal s t) 0 e)
-    go false e = refl
-
-pub cycles-count : (t : List ℕ) → length (cyclesOf t) ≡ cycleCount t
-unfolding cyclesOf
-cycles-count t = length-inOrder (cycleCount t) (cycleAt t)
-
-pub cycles-at : (t : List ℕ) (i : ℕ) → i < cycleCount t → getD (cyclesOf t) i 0 ≡ cycleAt t i
-unfolding cyclesOf
-cycles-at t i h = getD-inOrder (cycleCount t) (cycleAt t) i 0 h
 
 -- whatever the bytes, the answer is none of the numbers or one of them, and the lowest that applies
 pub sheet-lowest : (s : List ℕ) → Lowest 1 (sheetRules s) (sheetRefusal s)

@@ -12,15 +12,12 @@ use Rattle.semantics.specs.Reach.{within}
 use Rattle.stored.specs.declared.Node.{Node}
 use Rattle.stored.specs.declared.StoredClause.{StoredClause}
 use Rattle.stored.specs.declared.SheetAnswer.the-variants.{Accepted, Refused}
-use Rattle.stored.specs.declared.TraceAnswer.{TraceAnswer}
-use Rattle.stored.specs.declared.TraceAnswer.the-variants.{Cycles}
 use Rattle.stored.specs.Bytes.{framedFrom, everyBelow, lowest}
 use Rattle.stored.specs.Node.{requirementSorts, isFormulaNode, nodeRight}
 use Rattle.stored.specs.Tree.{pick, formulaAt}
 use Rattle.stored.specs.Reach.{joint, reachAt, reachTable, entryOf}
 use Rattle.stored.specs.Clause.{partsUsed, partRight, clauseRight, clauseRightAt, partNamed, clauseNamed, clauseNamedAt, partCovered, clauseCovered, clauseCoveredAt}
 use Rattle.stored.specs.Sheet.{headerOf, nodesOf, storedOf, framed, versioned, ofKindOne, counted, sized, nodesRight, operandsFound, clausesRight, clausesNamed, sheetRules, sheetRefusal, sheetAnswer}
-use Rattle.stored.specs.Trace.{cycleCount, traceFramed, traceVersioned, sameSignals, cyclesRight, traceRules, traceRefusal, traceAnswer}
 use Rattle.semantics.proofs.Tests.{and-left, and-right}
 use Rattle.stored.proofs.Rules.{every-at, every-same}
 use Rattle.stored.proofs.Tree.{Earlier, sort-below}
@@ -39,7 +36,7 @@ pub record Sized (s : List ℕ) : Type 0 where
   pub rule4 : counted (headerOf s) ≡ true
   pub rule5 : sized s ≡ true
 
-framed-from : (least : ℕ) (s : List ℕ) → framedFrom least s ≡ true → least ≤ length s
+pub framed-from : (least : ℕ) (s : List ℕ) → framedFrom least s ≡ true → least ≤ length s
 unfolding framedFrom
 framed-from least s e = leb-true least (length s) (and-left (leb least (length s)) _ e)
 
@@ -133,34 +130,3 @@ covered-named s r₄ r₆ r₇ r₈ =
     (λ k h.
     clause-covered (headerOf s .signals) (headerOf s .names) (headerOf s .nodes) (nodesOf s) kept (many .few-nodes) (storedOf s k)
     (every-at (headerOf s .clauses) _ r₈ k h))
-
--- rules 10 to 12 of a trace, with s signals on its sheet
-pub record TraceHeaded (s : ℕ) (t : List ℕ) : Type 0 where
-  pub rule10 : traceFramed t ≡ true
-  pub rule11 : traceVersioned t ≡ true
-  pub rule12 : sameSignals s t ≡ true
-
-module _ (s : ℕ) (t : List ℕ) where
-  pub refused10 : traceFramed t ≡ false → TraceAnswer.Refused 10 ≡ traceAnswer s t
-  unfolding traceAnswer traceRefusal traceRules lowest pick
-  refused10 e = rw e
-
-  pub refused11 : traceFramed t ≡ true → traceVersioned t ≡ false → TraceAnswer.Refused 11 ≡ traceAnswer s t
-  unfolding traceAnswer traceRefusal traceRules lowest pick
-  refused11 r₁₀ e = rw (r₁₀, e)
-
-  pub refused12 : traceFramed t ≡ true → traceVersioned t ≡ true → sameSignals s t ≡ false → TraceAnswer.Refused 12 ≡ traceAnswer s t
-  unfolding traceAnswer traceRefusal traceRules lowest pick
-  refused12 r₁₀ r₁₁ e = rw (r₁₀, r₁₁, e)
-
-  pub refused13 : TraceHeaded s t → cyclesRight s t ≡ false → TraceAnswer.Refused 13 ≡ traceAnswer s t
-  unfolding traceAnswer traceRefusal traceRules lowest pick
-  refused13 h e = rw (h .rule10, h .rule11, h .rule12, e)
-
-  pub trace-accepted : TraceHeaded s t → cyclesRight s t ≡ true → Cycles (cycleCount t) ≡ traceAnswer s t
-  unfolding traceAnswer traceRefusal traceRules lowest pick
-  trace-accepted h e = rw (h .rule10, h .rule11, h .rule12, e)
-
-  pub trace-framed-long : traceFramed t ≡ true → 4 ≤ length t
-  unfolding traceFramed
-  trace-framed-long e = framed-from 4 t e

@@ -1,4 +1,4 @@
--- Document 01's example input, and inputs that are refused.
+-- Document 01's example sheet, and sheets that are refused.
 use Prim.Native.Nat.{ℕ}
 use mathlib.Core.List.{List, [], _∷_}
 use mathlib.Core.Path.{_≡_, refl}
@@ -11,10 +11,9 @@ use Rattle.stored.specs.Node.{nodeAt, sortOf, qUse, aUse, bUse, fieldRig
 use Rattle.stored.specs.Tree.{pick, earlier, deep, made, propositionOp, formulaOp, propositionOf, propositionStep, propositionAt, formulaOf, formulaStep, formulaAt}
 use Rattle.stored.specs.Clause.{storedAt, partsUsed, partRight, clauseRight, partNamed, clauseNamed, clauseRightAt, clauseNamedAt}
 use Rattle.stored.specs.Sheet.{headerOf, nodePart, clausePart, nodesOf, storedOf, framed, versioned, ofKindOne, counted, sized, nodesRight, operandsFound, clausesRight, clausesNamed, sheetRules, sheetRefusal}
-use Rattle.stored.specs.Trace.{cycleCount, cycleAt, traceFramed, traceVersioned, sameSignals, cycleRight, cyclesRight, traceRules, traceRefusal, cyclesOf}
 
 unfoldable pub computing : ℕ
-unfolding word framedFrom everyBelow inOrder lowest nodeAt sortOf qUse aUse bUse fieldRight fieldsRight nodeRight sortBelow operandRight operandsRight isFormulaNode pick earlier deep made propositionOp formulaOp propositionOf propositionStep propositionAt formulaOf formulaStep formulaAt storedAt partsUsed partRight clauseRight partNamed clauseNamed clauseRightAt clauseNamedAt headerOf nodePart clausePart nodesOf storedOf framed versioned ofKindOne counted sized nodesRight operandsFound clausesRight clausesNamed sheetRules sheetRefusal cycleCount cycleAt traceFramed traceVersioned sameSignals cycleRight cyclesRight traceRules traceRefusal cyclesOf within propositionWithin bit
+unfolding word framedFrom everyBelow inOrder lowest nodeAt sortOf qUse aUse bUse fieldRight fieldsRight nodeRight sortBelow operandRight operandsRight isFormulaNode pick earlier deep made propositionOp formulaOp propositionOf propositionStep propositionAt formulaOf formulaStep formulaAt storedAt partsUsed partRight clauseRight partNamed clauseNamed clauseRightAt clauseNamedAt headerOf nodePart clausePart nodesOf storedOf framed versioned ofKindOne counted sized nodesRight operandsFound clausesRight clausesNamed sheetRules sheetRefusal within propositionWithin bit
 computing = 0
 
 abbrev sheet : List ℕ
@@ -24,9 +23,6 @@ sheet =
     ∷ 16 ∷ 0 ∷ 0 ∷ 0 ∷ 0 ∷ 0
     ∷ 3 ∷ 1 ∷ 0 ∷ 1 ∷ 0 ∷ 0 ∷ 0 ∷ 0 ∷ 0 ∷ 0 ∷ 0 ∷ []
 
-abbrev trace : List ℕ
-trace = 0 ∷ 8 ∷ 1 ∷ 1 ∷ 0 ∷ 0 ∷ 0 ∷ 0 ∷ 0 ∷ 1 ∷ []
-
 sheet-accepted : sheetRefusal sheet ≡ 0
 unfolding computing
 sheet-accepted = refl
@@ -35,15 +31,7 @@ sheet-formula : formulaAt (nodesOf sheet) 1 ≡ point (signal 0)
 unfolding computing
 sheet-formula = refl
 
-trace-accepted : traceRefusal 1 trace ≡ 0
-unfolding computing
-trace-accepted = refl
-
-trace-cycles : cyclesOf trace ≡ 0 ∷ 0 ∷ 1 ∷ []
-unfolding computing
-trace-cycles = refl
-
--- version, then kind; a signal out of range; an operand that is the node itself; an unused mask; a signal bit from s up
+-- version, then kind; a signal out of range; an operand that is the node itself; an unused mask
 lowest-of-two : sheetRefusal (set (set sheet 2 7) 3 7) ≡ 2
 unfolding computing
 lowest-of-two = refl
@@ -63,7 +51,3 @@ mask-refused = refl
 name-refused : sheetRefusal (set sheet 29 1) ≡ 9
 unfolding computing
 name-refused = refl
-
-bit-refused : traceRefusal 1 (set trace 9 2) ≡ 13
-unfolding computing
-bit-refused = refl

@@ -5,7 +5,6 @@ pub mod Entries
 pub mod Tree
 pub mod Reach
 pub mod Accepted
-pub mod Columns
 pub mod Answer
 pub mod Written
 pub mod Emitted

@@ -1,12 +1,11 @@
 -- The reach mask of a node of a kind 1 sheet is the set of the names of its tree.
-use Prim.Native.Nat.{ℕ, zero, suc, _+_, _/_, _%_, _^_, _≤_, _<_}
+use Prim.Native.Nat.{ℕ, zero, suc, _/_, _%_, _^_, _≤_, _<_}
 use mathlib.Core.Bool.{Bool, true, false, not, cond, _&&_, _||_, Bool·beq}
 use mathlib.Core.List.{List, [], _∷_}
-use mathlib.Core.Logic.{inl, inr}
 use mathlib.Core.Path.{_≡_, refl, sym, _∙_, ap, ap₂, subst, fun-ext}
 use native.Mathlib.Nat.{pow-le-pow-right, div-eq-of-lt}
 use native.Mathlib.Omega.{arith}
-use borrow.Author.Tests.{ltb-true, ltb-false, eqb-true, eqb-false, eq-eqb}
+use borrow.Author.Tests.{ltb-true, ltb-false, eq-eqb}
 use lib.Bits.{or-zero-l, or-zero-r, or-lt}
 use lib.Dec.{eqb, ltb}
 use lib.ListN.{getD, List·getD-eq-default}
@@ -15,11 +14,11 @@ use Rattle.semantics.specs.Formula.{Formula}
 use Rattle.semantics.specs.Placement.{Names, listed}
 use Rattle.semantics.specs.Reach.{propositionWithin, within}
 use Rattle.stored.specs.declared.Node.{Node}
-use Rattle.stored.specs.Bytes.{everyBelow, inOrder}
+use Rattle.stored.specs.Bytes.{everyBelow}
 use Rattle.stored.specs.Node.{requirementSorts, sortOf, qUse, aUse, bUse, fieldRight, fieldsRight, operandsRight}
 use Rattle.stored.specs.Tree.{earlier, propositionOp, formulaOp, propositionOf, propositionAt, formulaOf, formulaAt}
 use Rattle.stored.specs.Reach.{joint, nameMask, fieldReach, nodeReach, reachStep, reachAt, covers, reachTable, entryOf}
-use Rattle.semantics.proofs.Tests.{test, and-left, and-right}
+use Rattle.semantics.proofs.Tests.{and-left, and-right}
 use Rattle.stored.proofs.Rules.{asked, every-at, every-number, getD-inOrder}
 use Rattle.stored.proofs.Made.{earlier-at, made-step}
 use Rattle.stored.proofs.Tree.{operands, proposition-cases, formula-cases, proposition-law, formula-law, is-proposition, is-formula}

@@ -6,8 +6,6 @@ pub mod Tree
 pub mod Reach
 pub mod Clause
 pub mod Sheet
-pub mod Trace
-pub mod Columns
 pub mod Written
 pub mod Output
 pub mod Emitted

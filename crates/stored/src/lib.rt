@@ -1,4 +1,4 @@
-// Stored sheets and traces: which bytes are one, by which number the others are refused, and what an accepted sheet says.
+// Stored sheets: which bytes are one, by which number the others are refused, and what an accepted sheet says.
 pub mod bytes;
 pub mod clauses;
 pub mod layout;
@@ -6,7 +6,6 @@ pub mod masks;
 pub mod nodes;
 pub mod ops;
 pub mod sheet;
-pub mod trace;
 pub mod writer;
 
 // A node's four fields.
@@ -40,12 +39,6 @@ pub struct Header {
 // An accepted sheet's header, or the number of the refusal.
 pub enum SheetAnswer {
     Accepted(Header),
-    Refused(usize),
-}
-
-// How many cycles an accepted trace has, or the number of the refusal.
-pub enum TraceAnswer {
-    Cycles(usize),
     Refused(usize),
 }
 

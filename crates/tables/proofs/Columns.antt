@@ -1,6 +1,6 @@
 -- Laws of columns: what a node's column is, and the columns of names that stand on cycles.
 use Prim.Native.Nat.{ℕ, zero, suc, _+_, _-_, _^_, _≤_, _<_}
-use mathlib.Core.Bool.{Bool, true, false, _&&_}
+use mathlib.Core.Bool.{Bool, true, _&&_}
 use mathlib.Core.List.{List}
 use mathlib.Core.Logic.{_⊎_, inl, inr}
 use mathlib.Core.Path.{_≡_, refl, sym, _∙_, ap, ap₂, subst}
@@ -8,7 +8,7 @@ use native.Mathlib.Omega.{arith}
 use borrow.Author.Tests.{eqb-true, ltb-true, ltb-false, lt-ltb}
 use lib.Bits.{bitOr}
 use lib.Dec.{ltb, eqb}
-use lib.ListN.{length, getD, set, length-set}
+use lib.ListN.{length, getD, length-set}
 use lib.Seq.{getD-set-same, getD-set-other}
 use Rattle.semantics.specs.Proposition.{Trace, Marks, bit, signalAt}
 use Rattle.semantics.specs.Placement.{marks}
@@ -16,10 +16,10 @@ use Rattle.semantics.proofs.Tests.{test, and-false-right}
 use Rattle.rows.specs.Row.{word}
 use Rattle.rows.proofs.Rows.{word-small, word-bit, is-word, is-word-in}
 use Rattle.stored.specs.declared.Node.{Node}
-use Rattle.stored.specs.Columns.{firstName, columnAt, IsColumns, traceOf, marksOf}
+use Rattle.traces.specs.Columns.{firstName, columnAt, IsColumns, traceOf, marksOf}
 use Rattle.stored.specs.Reach.{joint}
 use Rattle.stored.specs.Tree.{propositionOp}
-use Rattle.stored.proofs.Columns.{told-signal, told-same}
+use Rattle.traces.proofs.Columns.{told-signal, told-same}
 use Rattle.tables.specs.Table.{standing, Inside}
 use Rattle.tables.specs.Step.{columnOf}
 use Rattle.tables.specs.Ready.{markedAt, withName, changed, withNames, changedNames}

@@ -14,7 +14,7 @@ use Rattle.semantics.specs.Formula.{Formula, holds}
 use Rattle.semantics.proofs.Tests.{test}
 use Rattle.rows.specs.Row.{word, row}
 use Rattle.stored.specs.declared.Node.{Node}
-use Rattle.stored.specs.Columns.{IsColumns, traceOf, marksOf}
+use Rattle.traces.specs.Columns.{IsColumns, traceOf, marksOf}
 use Rattle.stored.specs.Node.{requirementSorts, sortOf, nodeAt}
 use Rattle.stored.specs.Reach.{reachAt, reachTable}
 use Rattle.stored.proofs.Rules.{length-inOrder}

@@ -12,7 +12,7 @@ use Rattle.semantics.specs.Formula.{Formula, holds}
 use Rattle.semantics.proofs.Tests.{and-true-right}
 use Rattle.rows.specs.Row.{word, row, joined, starred}
 use Rattle.rows.proofs.Bits.{bit-nothing}
-use Rattle.rows.proofs.Rows.{word-small, word-bit, is-word, is-word-in, word-ext, word-and, word-or, word-not}
+use Rattle.rows.proofs.Rows.{word-small, word-bit, is-word, is-word-in, word-and, word-or, word-not}
 use Rattle.rows.proofs.Formulas.{point-holds, stretch-holds, whole-holds, unit-holds, chop-holds, conjunction-holds, disjunction-holds, star-holds, slen-holds, scount-holds, sdur-holds, drawn-holds, at-holds, gap-holds}
 use Rattle.stored.specs.declared.Node.{Node}
 use Rattle.stored.specs.Node.{requirementSorts, sortOf, aUse, bUse, qUse}

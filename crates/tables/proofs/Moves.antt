@@ -15,16 +15,16 @@ use Rattle.semantics.proofs.Locality.{Alike, local, at-local}
 use Rattle.rows.proofs.Rows.{row-ext, word-ext}
 use Rattle.stored.specs.declared.Node.{Node}
 use Rattle.stored.specs.Bytes.{everyBelow}
-use Rattle.stored.specs.Columns.{firstName, columnAt, IsColumns, traceOf, marksOf}
+use Rattle.traces.specs.Columns.{firstName, columnAt, traceOf, marksOf}
 use Rattle.stored.specs.Node.{nodeAt}
 use Rattle.stored.specs.Reach.{joint, nameMask, reachAt, covers, entryOf}
 use Rattle.stored.specs.Tree.{propositionAt, formulaAt}
-use Rattle.stored.proofs.Columns.{told-length}
+use Rattle.traces.proofs.Columns.{told-length}
 use Rattle.stored.proofs.Reach.{NodesKept, reach-law, reach-small, table-at, eachBool, each-at}
 use Rattle.stored.proofs.Rules.{asked, every-at}
 use Rattle.tables.specs.Table.{standing, Inside, Table, Tables}
 use Rattle.tables.specs.Ready.{Given, Ready, Kept, apart, markedAt, withName, changed, withNames, changedNames}
-use Rattle.tables.proofs.Columns.{name-there, name-elsewhere, name-long, names-long, names-at, names-told, names-columns, names-marked}
+use Rattle.tables.proofs.Columns.{name-elsewhere, name-long, names-at, names-told, names-columns, names-marked}
 use Rattle.tables.proofs.Fills.{given-other}
 use Rattle.tables.proofs.Nodes.{nodes-kept}
 

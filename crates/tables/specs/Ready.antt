@@ -10,7 +10,7 @@ use Rattle.semantics.specs.Proposition.{Trace, Marks}
 use Rattle.rows.specs.Row.{word}
 use Rattle.stored.specs.declared.Node.{Node}
 use Rattle.stored.specs.Bytes.{everyBelow}
-use Rattle.stored.specs.Columns.{firstName, columnAt, IsColumns, traceOf, marksOf}
+use Rattle.traces.specs.Columns.{firstName, columnAt, IsColumns, traceOf, marksOf}
 use Rattle.stored.specs.Layout.{nodeSize, mostSignals, mostNames, mostNodes, mostCycles}
 use Rattle.stored.specs.Node.{requirementSorts, nodeAt, nodeRight, operandsRight}
 use Rattle.stored.specs.Reach.{joint, nameMask, reachTable, entryOf}

@@ -10,7 +10,7 @@ use Rattle.semantics.specs.Proposition.{bit}
 use Rattle.semantics.specs.Formula.{compared, drawnOn}
 use Rattle.rows.specs.Row.{word, row, joined, starred}
 use Rattle.stored.specs.declared.Node.{Node}
-use Rattle.stored.specs.Columns.{firstName, columnAt}
+use Rattle.traces.specs.Columns.{firstName, columnAt}
 use Rattle.stored.specs.Node.{aUse, bUse, qUse}
 use Rattle.stored.specs.Tree.{PropositionOp, neverOp, alwaysOp, signalOp, nameOp, negatedOp, bothOp, eitherOp, noProposition, FormulaOp, pointOp, stretchOp, wholeOp, unitOp, chopOp, conjunctionOp, disjunctionOp, starOp, slenOp, scountOp, sdurOp, drawnOp, atOp, gapOp, negationOp, forSomeOp, noFormula, comparisonOf, symbolOf}
 use Rattle.tables.specs.Table.{rowAt}

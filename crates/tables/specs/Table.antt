@@ -8,7 +8,7 @@ use Rattle.semantics.specs.Formula.{holds}
 use Rattle.semantics.specs.Placement.{Placement}
 use Rattle.rows.specs.Row.{word, row}
 use Rattle.stored.specs.declared.Node.{Node}
-use Rattle.stored.specs.Columns.{traceOf, marksOf}
+use Rattle.traces.specs.Columns.{traceOf, marksOf}
 use Rattle.stored.specs.Node.{requirementSorts, sortOf, proposition, formula}
 use Rattle.stored.specs.Tree.{propositionAt, formulaAt}
 

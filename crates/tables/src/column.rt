@@ -2,7 +2,7 @@
 ghost use mathlib.Core.Path.{_≡_};
 ghost use Prim.Native.Nat.{_+_, _*_, _≤_, _<_};
 ghost use lib.ListN.{length};
-ghost use Rattle.stored.specs.Columns.{firstName, columnAt};
+ghost use Rattle.traces.specs.Columns.{firstName, columnAt};
 ghost use Rattle.stored.specs.Tree.{propositionOp};
 ghost use Rattle.tables.specs.Step.{Usable, columnOf, firstColumn, secondColumn};
 use crate::words::row_at;
@@ -10,7 +10,7 @@ use rows::mask::below;
 use stored::Node;
 use stored::nodes::a_use;
 use stored::nodes::q_use;
-use stored::trace::FIRST_NAME;
+use traces::trace::FIRST_NAME;
 
 // Column k.
 fn column_at(columns: &[u64], k: usize) -> u64

@@ -3,7 +3,7 @@ ghost use mathlib.Core.Path.{_≡_};
 ghost use mathlib.Core.Bool.{true, false};
 ghost use Prim.Native.Nat.{_≤_, _<_};
 ghost use lib.ListN.{length};
-ghost use Rattle.stored.specs.Columns.{traceOf, marksOf};
+ghost use Rattle.traces.specs.Columns.{traceOf, marksOf};
 ghost use Rattle.stored.specs.Node.{nodeAt, requirementSorts, sortOf, proposition, formula};
 ghost use Rattle.tables.specs.Table.{Inside, Tables};
 ghost use Rattle.tables.specs.Step.{isPair};
@@ -17,7 +17,7 @@ use rows::mask::only;
 use stored::layout::MOST_NODES;
 use stored::masks::name_mask;
 use stored::nodes::node_at;
-use stored::trace::FIRST_NAME;
+use traces::trace::FIRST_NAME;
 
 // The column of proposition node i, from those of earlier nodes.
 fn put_column(nodes: &[u8], count: usize, n: usize, columns: &[u64], i: usize, words: &mut [u64])

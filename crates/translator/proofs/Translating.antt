@@ -32,12 +32,12 @@ use Rattle.stored.specs.declared.WriteAnswer.{WriteAnswer}
 use Rattle.stored.specs.declared.WriteAnswer.the-variants.{Written, Refused}
 use Rattle.stored.specs.Output.{writeAnswer, writeNumber, writtenLength}
 use Rattle.translator.specs.Refusal.{translateRefusal}
-use Rattle.emission.specs.Bound.{drawings, nodeBound}
+use Rattle.plans.specs.Bound.{drawings, nodeBound}
 use Rattle.translator.specs.Translated.{FormulaOf, Translated}
-use Rattle.emission.specs.Emission.{count, formulaIn, Good, Step, Has, Emits}
+use Rattle.plans.specs.Emission.{count, formulaIn, Good, Step, Has, Emits}
 use Rattle.emission.specs.Copying.{copyCosts, NodesIn}
 use Rattle.clauses.specs.Clauses.{ClausesIn, clauseAt, clausesAt, requirementCost}
-use Rattle.emission.proofs.Steps.{steps, operands-same}
+use Rattle.plans.proofs.Steps.{steps, operands-same}
 use Rattle.clauses.proofs.Joining.{joined-bound}
 use Rattle.semantics.proofs.Closed.{translation-closed}
 

@@ -10,7 +10,7 @@ use Rattle.stored.specs.Emitted.{isEmitted, emittedTrue}
 use Rattle.stored.specs.declared.WriteAnswer.{WriteAnswer}
 use Rattle.stored.specs.Output.{writeAnswer, writtenLength}
 use Rattle.translator.specs.Refusal.{translateRefusal}
-use Rattle.emission.specs.Bound.{nodeBound}
+use Rattle.plans.specs.Bound.{nodeBound}
 
 -- y is an emitted formula for sheet s
 pub record FormulaOf (s y : List ℕ) : Type 0 where

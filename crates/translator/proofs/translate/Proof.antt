@@ -1,5 +1,5 @@
 -- `translator::translate` meets its contract.
-use Rattle.emission.proofs.Steps.{steps}
+use Rattle.plans.proofs.Steps.{steps}
 use mathlib.Core.Path.{_≡_, sym, _∙_, subst}
 use denote.Ref.{now}
 use Rattle.stored.specs.Sheet.{headerOf, sheetAnswer}

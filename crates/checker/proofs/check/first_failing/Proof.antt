@@ -7,7 +7,7 @@ use mathlib.Core.Bool.{false}
 use lib.ListN.{length}
 use Rattle.semantics.specs.Verdict.{failsAs}
 use Rattle.stored.specs.Clause.{roleOf}
-use Rattle.stored.specs.Columns.{traceOf}
+use Rattle.traces.specs.Columns.{traceOf}
 use Rattle.places.specs.Laid.{Laid}
 use Rattle.places.proofs.Walks.{laid-own, relaid}
 use Rattle.checker.specs.Clauses.{clauseAt}

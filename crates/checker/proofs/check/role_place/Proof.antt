@@ -2,7 +2,7 @@
 use borrow.Author.Needs.{needs}
 use native.Mathlib.Omega.{arith}
 use Rattle.stored.specs.Node.{nodeAt}
-use Rattle.stored.specs.Columns.{traceOf}
+use Rattle.traces.specs.Columns.{traceOf}
 use Rattle.checker.proofs.Clauses.{short-trace}
 use Rattle.checker.proofs.Verdicts.{other-role, no-place, some-place}
 use Rattle.checker.proofs.check.role_place.Statement.{statement}

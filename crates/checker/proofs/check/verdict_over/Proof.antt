@@ -5,7 +5,7 @@ use native.Mathlib.Omega.{arith}
 use Prim.Native.Nat.{ℕ}
 use Rattle.semantics.specs.Clause.{Clause}
 use Rattle.stored.specs.Clause.{roleOf}
-use Rattle.stored.specs.Columns.{traceOf}
+use Rattle.traces.specs.Columns.{traceOf}
 use Rattle.places.proofs.Walks.{laid-own}
 use Rattle.checker.specs.declared.check.Answer.the-variants.{Broken}
 use Rattle.checker.specs.declared.check.Failing.{Failing}

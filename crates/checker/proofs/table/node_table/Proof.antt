@@ -7,7 +7,7 @@ use mathlib.Core.List.{List}
 use borrow.Author.Tests.{eqb-true, not-true, not-false}
 use lib.ListN.{getD}
 use Rattle.stored.specs.Node.{nodeAt, requirementSorts, isFormulaNode}
-use Rattle.stored.specs.Columns.{traceOf}
+use Rattle.traces.specs.Columns.{traceOf}
 use Rattle.stored.proofs.Tree.{sort-below}
 use Rattle.tables.specs.Table.{standing}
 use Rattle.checker.specs.Table.{placementOf, tableOf, nodeRefusal}

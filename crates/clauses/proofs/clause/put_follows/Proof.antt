@@ -1,8 +1,8 @@
 -- `clauses::clause::put_follows` meets its contract.
 use borrow.Author.Needs.{needs}
 use Rattle.semantics.specs.Translation.{anywhere, brokenOf}
-use Rattle.emission.specs.Plan.{everywhere, chopped}
-use Rattle.emission.proofs.Calls.{free}
+use Rattle.plans.specs.Plan.{everywhere, chopped}
+use Rattle.plans.proofs.Calls.{free}
 use Rattle.clauses.proofs.Names.{joined-union, placed-over}
 use Rattle.clauses.proofs.clause.put_follows.Statement.{statement}
 use Rattle.clauses.proofs.clause.put_follows.Tie as tie

@@ -1,8 +1,8 @@
 -- `clauses::clause::put_implies` meets its contract.
 use borrow.Author.Needs.{needs}
 use Rattle.semantics.specs.Translation.{anywhere, brokenOf}
-use Rattle.emission.specs.Plan.{there, everywhere, chopped, conjoined, denied}
-use Rattle.emission.proofs.Calls.{free}
+use Rattle.plans.specs.Plan.{there, everywhere, chopped, conjoined, denied}
+use Rattle.plans.proofs.Calls.{free}
 use Rattle.clauses.proofs.Names.{placed-over}
 use Rattle.clauses.proofs.clause.put_implies.Statement.{statement}
 use Rattle.clauses.proofs.clause.put_implies.Tie as tie

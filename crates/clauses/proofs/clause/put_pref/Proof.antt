@@ -1,8 +1,8 @@
 -- `clauses::clause::put_pref` meets its contract.
 use borrow.Author.Needs.{needs}
 use Rattle.semantics.specs.Translation.{anywhere, brokenOf}
-use Rattle.emission.specs.Plan.{everywhere, chopped, denied}
-use Rattle.emission.proofs.Calls.{free}
+use Rattle.plans.specs.Plan.{everywhere, chopped, denied}
+use Rattle.plans.proofs.Calls.{free}
 use Rattle.clauses.proofs.clause.put_pref.Statement.{statement}
 use Rattle.clauses.proofs.clause.put_pref.Tie as tie
 

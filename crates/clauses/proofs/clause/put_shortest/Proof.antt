@@ -1,8 +1,8 @@
 -- `clauses::clause::put_shortest` meets its contract.
 use borrow.Author.Needs.{needs}
 use Rattle.semantics.specs.Translation.{extended, shortestOf}
-use Rattle.emission.specs.Plan.{there, longer, chopped, conjoined, denied}
-use Rattle.emission.proofs.Calls.{free}
+use Rattle.plans.specs.Plan.{there, longer, chopped, conjoined, denied}
+use Rattle.plans.proofs.Calls.{free}
 use Rattle.clauses.proofs.clause.put_shortest.Statement.{statement}
 use Rattle.clauses.proofs.clause.put_shortest.Tie as tie
 

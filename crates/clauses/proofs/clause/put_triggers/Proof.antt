@@ -1,8 +1,8 @@
 -- `clauses::clause::put_triggers` meets its contract.
 use borrow.Author.Needs.{needs}
 use Rattle.semantics.specs.Translation.{anywhere, brokenOf}
-use Rattle.emission.specs.Plan.{everywhere, chopped, conjoined}
-use Rattle.emission.proofs.Calls.{free}
+use Rattle.plans.specs.Plan.{everywhere, chopped, conjoined}
+use Rattle.plans.proofs.Calls.{free}
 use Rattle.clauses.proofs.Names.{joined-union, placed-over}
 use Rattle.clauses.proofs.clause.put_triggers.Statement.{statement}
 use Rattle.clauses.proofs.clause.put_triggers.Tie as tie

@@ -2,7 +2,7 @@
 use borrow.Author.Needs.{needs}
 use Rattle.semantics.specs.Translation.{brokenOf}
 use Rattle.stored.specs.Clause.{typeOf}
-use Rattle.emission.proofs.Calls.{free}
+use Rattle.plans.proofs.Calls.{free}
 use Rattle.clauses.proofs.Broken.{pref-is}
 use Rattle.clauses.proofs.clause.put_typed.Statement.{statement}
 use Rattle.clauses.proofs.clause.put_typed.Tie as tie

@@ -1,8 +1,8 @@
 -- `clauses::clause::put_unanswered` meets its contract.
 use borrow.Author.Needs.{needs}
 use Rattle.semantics.specs.Translation.{anywhere, once, unansweredOf}
-use Rattle.emission.specs.Plan.{everywhere, chopped, conjoined, denied}
-use Rattle.emission.proofs.Calls.{free}
+use Rattle.plans.specs.Plan.{everywhere, chopped, conjoined, denied}
+use Rattle.plans.proofs.Calls.{free}
 use Rattle.clauses.proofs.Names.{joined-union, placed-over}
 use Rattle.clauses.proofs.clause.put_unanswered.Statement.{statement}
 use Rattle.clauses.proofs.clause.put_unanswered.Tie as tie

@@ -1,6 +1,6 @@
 -- `clauses::placing::put_fresh` meets its contract.
 use borrow.Author.Needs.{needs}
-use Rattle.emission.proofs.Calls.{free}
+use Rattle.plans.proofs.Calls.{free}
 use Rattle.clauses.proofs.Names.{bit-none}
 use Rattle.clauses.proofs.placing.put_fresh.Statement.{statement}
 use Rattle.clauses.proofs.placing.put_fresh.Tie as tie

@@ -4,8 +4,8 @@ use borrow.Author.Needs.{needs}
 use borrow.Author.Tests.{not-true, not-false}
 use native.Mathlib.Omega.{arith}
 use Rattle.semantics.specs.Translation.{onceName, placedName}
-use Rattle.emission.specs.Plan.{there, marked, conjoined, columned}
-use Rattle.emission.proofs.Calls.{free}
+use Rattle.plans.specs.Plan.{there, marked, conjoined, columned}
+use Rattle.plans.proofs.Calls.{free}
 use Rattle.clauses.proofs.placing.put_name.Statement.{statement}
 use Rattle.clauses.proofs.placing.put_name.Tie as tie
 

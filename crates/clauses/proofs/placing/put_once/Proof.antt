@@ -3,7 +3,7 @@ use borrow.Author.Needs.{needs}
 use Rattle.semantics.specs.Proposition.{bit}
 use Rattle.semantics.specs.Placement.{everyName}
 use Rattle.semantics.specs.Translation.{placedName, placed, once}
-use Rattle.emission.proofs.Calls.{free}
+use Rattle.plans.proofs.Calls.{free}
 use Rattle.clauses.proofs.placing.put_once.Statement.{statement}
 use Rattle.clauses.proofs.placing.put_once.Tie as tie
 

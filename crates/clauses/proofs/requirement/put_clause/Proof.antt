@@ -1,6 +1,6 @@
 -- `clauses::requirement::put_clause` meets its contract.
 use borrow.Author.Needs.{needs}
-use Rattle.emission.proofs.Calls.{free}
+use Rattle.plans.proofs.Calls.{free}
 use Rattle.clauses.specs.Clauses.{brokenIn}
 use Rattle.clauses.proofs.requirement.put_clause.Statement.{statement}
 use Rattle.clauses.proofs.requirement.put_clause.Tie as tie

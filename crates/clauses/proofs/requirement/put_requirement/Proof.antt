@@ -5,9 +5,9 @@ use native.Mathlib.Omega.{arith}
 use Rattle.stored.specs.Node.{nodeAt}
 use Rattle.stored.specs.Sheet.{headerOf}
 use Rattle.stored.proofs.Accepted.{ClauseKept, mask-small}
-use Rattle.emission.specs.Emission.{count, Ready}
-use Rattle.emission.proofs.Calls.{free}
-use Rattle.emission.proofs.Steps.{ready-kept}
+use Rattle.plans.specs.Emission.{count, Ready}
+use Rattle.plans.proofs.Calls.{free}
+use Rattle.plans.proofs.Steps.{ready-kept}
 use Rattle.emission.proofs.Copied.{costs-most}
 use Rattle.clauses.specs.Clauses.{clausesAt}
 use Rattle.clauses.proofs.Joining.{clauses-kept, clause-known, Joined, joined-start, joined-next, joined-done}

@@ -2,9 +2,9 @@
 use mathlib.Core.Path.{sym}
 use borrow.Author.Needs.{needs}
 use Rattle.stored.specs.Written.{NodeFits}
-use Rattle.emission.specs.Bound.{isDrawing}
+use Rattle.plans.specs.Bound.{isDrawing}
 use Rattle.emission.specs.Copying.{byOthers, itself}
-use Rattle.emission.proofs.Calls.{free}
+use Rattle.plans.proofs.Calls.{free}
 use Rattle.emission.proofs.Copied.{node-fits}
 use Rattle.emission.proofs.copy.copy_node.Statement.{statement}
 use Rattle.emission.proofs.copy.copy_node.Tie as tie

@@ -4,9 +4,9 @@ use mathlib.Core.Path.{_≡_, refl, ap}
 use native.Mathlib.Omega.{arith}
 use lib.ListN.{length, length-set}
 use Rattle.stored.specs.Node.{nodeAt}
-use Rattle.emission.specs.Emission.{Step}
+use Rattle.plans.specs.Emission.{Step}
 use Rattle.emission.specs.Copying.{Mapped, copyCosts}
-use Rattle.emission.proofs.Steps.{stay, wider}
+use Rattle.plans.proofs.Steps.{stay, wider}
 use Rattle.emission.proofs.Copied.{copied-next}
 use Rattle.emission.proofs.copy.copy_nodes.Statement.{statement}
 use Rattle.emission.proofs.copy.copy_nodes.Tie as tie

@@ -1,7 +1,7 @@
 -- `emission::copy::put_copy` meets its contract.
 use borrow.Author.Needs.{needs}
 use Rattle.emission.specs.Copying.{copiedNode}
-use Rattle.emission.proofs.Calls.{free}
+use Rattle.plans.proofs.Calls.{free}
 use Rattle.emission.proofs.copy.put_copy.Statement.{statement}
 use Rattle.emission.proofs.copy.put_copy.Tie as tie
 

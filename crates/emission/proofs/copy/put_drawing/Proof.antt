@@ -4,7 +4,7 @@ use native.Mathlib.Omega.{arith}
 use Rattle.semantics.specs.Translation.{undrawn}
 use Rattle.stored.specs.Tree.{formulaOf, formulaOp}
 use Rattle.emission.specs.Copying.{drawingOf}
-use Rattle.emission.proofs.Calls.{free}
+use Rattle.plans.proofs.Calls.{free}
 use Rattle.emission.proofs.Copied.{gap-is}
 use Rattle.emission.proofs.copy.put_drawing.Statement.{statement}
 use Rattle.emission.proofs.copy.put_drawing.Tie as tie

@@ -2,8 +2,8 @@
 use borrow.Author.Needs.{needs}
 use native.Mathlib.Omega.{arith}
 use Rattle.semantics.specs.Translation.{anywhere, undrawnGap}
-use Rattle.emission.specs.Plan.{named, everywhere, noMore, pointed, chopped, conjoined}
-use Rattle.emission.proofs.Calls.{free}
+use Rattle.plans.specs.Plan.{named, everywhere, noMore, pointed, chopped, conjoined}
+use Rattle.plans.proofs.Calls.{free}
 use Rattle.emission.proofs.drawing.put_gap.Statement.{statement}
 use Rattle.emission.proofs.drawing.put_gap.Tie as tie
 

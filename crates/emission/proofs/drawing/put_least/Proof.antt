@@ -1,8 +1,8 @@
 -- `emission::drawing::put_least` meets its contract.
 use borrow.Author.Needs.{needs}
-use Rattle.emission.specs.Plan.{everywhere}
-use Rattle.emission.proofs.Calls.{free}
-use Rattle.emission.proofs.Plans.{at-least}
+use Rattle.plans.specs.Plan.{everywhere}
+use Rattle.plans.proofs.Calls.{free}
+use Rattle.plans.proofs.Plans.{at-least}
 use Rattle.emission.proofs.drawing.put_least.Statement.{statement}
 use Rattle.emission.proofs.drawing.put_least.Tie as tie
 

@@ -1,7 +1,7 @@
 -- `emission::drawing::put_low` meets its contract.
 use borrow.Author.Needs.{needs}
-use Rattle.emission.specs.Plan.{signalled, negatedOf}
-use Rattle.emission.proofs.Calls.{free}
+use Rattle.plans.specs.Plan.{signalled, negatedOf}
+use Rattle.plans.proofs.Calls.{free}
 use Rattle.emission.proofs.drawing.put_low.Statement.{statement}
 use Rattle.emission.proofs.drawing.put_low.Tie as tie
 

@@ -2,8 +2,8 @@
 use borrow.Author.Needs.{needs}
 use native.Mathlib.Omega.{arith}
 use Rattle.semantics.specs.Translation.{undrawnMark}
-use Rattle.emission.specs.Plan.{named, exactly, pointed, conjoined}
-use Rattle.emission.proofs.Calls.{free}
+use Rattle.plans.specs.Plan.{named, exactly, pointed, conjoined}
+use Rattle.plans.proofs.Calls.{free}
 use Rattle.emission.proofs.drawing.put_mark.Statement.{statement}
 use Rattle.emission.proofs.drawing.put_mark.Tie as tie
 

@@ -1,8 +1,8 @@
 -- `emission::drawing::put_steady` meets its contract.
 use borrow.Author.Needs.{needs}
 use Rattle.semantics.specs.Translation.{undrawnSymbol}
-use Rattle.emission.specs.Plan.{signalled, stretched, disjoined}
-use Rattle.emission.proofs.Calls.{free}
+use Rattle.plans.specs.Plan.{signalled, stretched, disjoined}
+use Rattle.plans.proofs.Calls.{free}
 use Rattle.emission.proofs.drawing.put_steady.Statement.{statement}
 use Rattle.emission.proofs.drawing.put_steady.Tie as tie
 

@@ -2,8 +2,8 @@
 use borrow.Author.Needs.{needs}
 use Rattle.semantics.specs.Translation.{anywhere, undrawnSymbol}
 use Rattle.stored.specs.Tree.{symbolOf}
-use Rattle.emission.specs.Plan.{signalled, everywhere, exactly, stretched, united}
-use Rattle.emission.proofs.Calls.{free}
+use Rattle.plans.specs.Plan.{signalled, everywhere, exactly, stretched, united}
+use Rattle.plans.proofs.Calls.{free}
 use Rattle.emission.proofs.Drawings.{either-is, low-is}
 use Rattle.emission.proofs.drawing.put_symbol.Statement.{statement}
 use Rattle.emission.proofs.drawing.put_symbol.Tie as tie

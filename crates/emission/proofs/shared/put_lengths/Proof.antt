@@ -1,6 +1,6 @@
 -- `emission::shared::put_lengths` meets its contract.
 use borrow.Author.Needs.{needs}
-use Rattle.emission.proofs.Calls.{free}
+use Rattle.plans.proofs.Calls.{free}
 use Rattle.emission.proofs.SharedNodes.{shared-start}
 use Rattle.emission.proofs.shared.put_lengths.Statement.{statement}
 use Rattle.emission.proofs.shared.put_lengths.Tie as tie

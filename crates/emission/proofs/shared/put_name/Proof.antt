@@ -1,6 +1,6 @@
 -- `emission::shared::put_name` meets its contract.
 use borrow.Author.Needs.{needs}
-use Rattle.emission.proofs.Calls.{free}
+use Rattle.plans.proofs.Calls.{free}
 use Rattle.emission.proofs.SharedNodes.{shared-next}
 use Rattle.emission.proofs.shared.put_name.Statement.{statement}
 use Rattle.emission.proofs.shared.put_name.Tie as tie

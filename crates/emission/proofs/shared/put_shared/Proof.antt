@@ -2,8 +2,8 @@
 use Prim.Native.Nat.{_+_, _-_, _*_, _≤_}
 use mathlib.Core.Path.{_≡_, subst}
 use native.Mathlib.Omega.{arith}
-use Rattle.emission.specs.Emission.{count, Step, Shared}
-use Rattle.emission.proofs.Steps.{stay, steps, wider}
+use Rattle.plans.specs.Emission.{count, Step, Shared}
+use Rattle.plans.proofs.Steps.{stay, steps, wider}
 use Rattle.emission.proofs.shared.put_shared.Statement.{statement}
 use Rattle.emission.proofs.shared.put_shared.Tie as tie
 

@@ -1,7 +1,7 @@
 -- The cycle of calls {bracket, formula, joined, term}: pieces joined at a level are read by the level below it, single pieces by `term`, and
 -- a bracketed one by `bracket`, inside which there is a formula again, with one bracket fewer to open. The measure goes by the brackets
 -- left, then the level.
-use Prim.Native.Nat.{ℕ, _+_, _-_, _*_, _<_}
+use Prim.Native.Nat.{ℕ, _+_, _*_, _<_}
 use mathlib.Core.Path.{refl}
 use native.Mathlib.Omega.{arith}
 use borrow.Author.Needs.{needs}

@@ -3,18 +3,16 @@
 use Prim.Native.Nat.{ℕ, _+_, _-_, _≤_, _<_}
 use mathlib.Core.Bool.{Bool, cond, _&&_}
 use lib.Dec.{eqb}
-use mathlib.Core.List.{List}
-use mathlib.Core.Path.{_≡_, refl, sym, ap, subst, _∙_}
+use mathlib.Core.Path.{_≡_, refl, sym, ap, _∙_}
 use native.Mathlib.Omega.{arith}
 use borrow.Author.Needs.{needs}
 use borrow.Fn.Kinds.{In}
 use borrow.Fn.PlainCycle.{Measures, is, falls, and}
-use lib.ListN.{length, getD, set, replicate}
+use lib.ListN.{length, getD, replicate}
 use Rattle.semantics.specs.Cycles.{someFrom}
-use Rattle.semantics.specs.Proposition.{Trace, bit}
-use Rattle.stored.specs.Columns.{traceOf}
+use Rattle.traces.specs.Columns.{traceOf}
 use Rattle.tables.specs.Table.{standing}
-use Rattle.places.specs.Laid.{Laid, Walked, overLast, lowOf, lastOf}
+use Rattle.places.specs.Laid.{Laid, Walked, lowOf, lastOf}
 use Rattle.places.proofs.Loops.{low-last, walked-none, walked-turn}
 use Rattle.places.proofs.Walks.{lay-placed, few-cycles, some-cycles, root-rows, walkable-again, walkable-next, walkable-within, find-none, find-closed, find-open, laid-own, relaid, readded, refound, rewalked, walked-unneeded, walked-answer, walked-find, nextOver, walked-next, walked-level, places-above, next-below}
 use Rattle.places.proofs.walk.find.Reads as find
@@ -23,10 +21,10 @@ use Rattle.places.proofs.walk.+find+walk.Lts-find as find-lts
 use Rattle.places.proofs.walk.walk.Reads as walk
 use Rattle.places.proofs.walk.walk.Kinds as walk-kinds
 use Rattle.places.proofs.walk.+find+walk.Lts-walk as walk-lts
-use Rattle.places.proofs.choice.choose.Reads as choose-reads
+use Rattle.intervals.proofs.choice.choose.Reads as choose-reads
 use Rattle.stored.proofs.masks.has_name.Reads as has-name-reads
-use Rattle.places.proofs.gather.add.Reads as add-reads
-use Rattle.places.proofs.search.search.Reads as search-reads
+use Rattle.intervals.proofs.gather.add.Reads as add-reads
+use Rattle.intervals.proofs.search.search.Reads as search-reads
 use Rattle.places.proofs.walk.answer.Reads as answer-reads
 use Rattle.places.proofs.walk.hopeless.Reads as hopeless-reads
 use Rattle.places.proofs.walk.is_premised.Reads as is-premised-reads

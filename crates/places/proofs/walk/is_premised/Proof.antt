@@ -1,6 +1,6 @@
 -- `places::walk::is_premised` meets its contract.
 use borrow.Author.Needs.{needs}
-use Rattle.places.specs.Search.{premised}
+use Rattle.intervals.specs.Search.{premised}
 use Rattle.places.proofs.walk.is_premised.Statement.{statement}
 use Rattle.places.proofs.walk.is_premised.Tie as tie
 

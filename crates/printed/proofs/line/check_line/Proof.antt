@@ -4,7 +4,7 @@ use mathlib.Core.List.{List}
 use mathlib.Core.Path.{_∙_, ap, ap₂}
 use Rattle.checker.specs.declared.check.Answer.{Answer}
 use Rattle.printed.specs.Line.{lineText, lineOf, lineFor}
-use Rattle.printed.proofs.Texts.{put-padded}
+use Rattle.lines.proofs.Texts.{put-padded}
 use borrow.Author.Needs.{needs}
 use Rattle.printed.proofs.line.check_line.Statement.{statement}
 use Rattle.printed.proofs.line.check_line.Tie as tie

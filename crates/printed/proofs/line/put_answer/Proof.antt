@@ -3,9 +3,9 @@ use mathlib.Core.Path.{subst}
 use native.Mathlib.Omega.{arith}
 use Rattle.checker.specs.declared.check.Answer.{Answer}
 use Rattle.checker.specs.Small.{Small}
-use Rattle.printed.specs.Lines.{refusedText}
+use Rattle.lines.specs.Lines.{refusedText}
 use Rattle.printed.specs.Line.{brokenText, lineText}
-use Rattle.printed.proofs.Texts.{line-short, put-told}
+use Rattle.printed.proofs.Shown.{line-short, put-told}
 use borrow.Author.Needs.{needs}
 use Rattle.printed.proofs.line.put_answer.Statement.{statement}
 use Rattle.printed.proofs.line.put_answer.Tie as tie

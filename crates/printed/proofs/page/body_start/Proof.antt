@@ -1,7 +1,7 @@
 -- `printed::page::body_start` meets its contract.
 use mathlib.Core.Path.{refl}
 use native.Mathlib.Omega.{arith}
-use Rattle.printed.proofs.Texts.{short-drop}
+use Rattle.printed.proofs.Shown.{short-drop}
 use Rattle.printed.proofs.page.body_start.Statement.{statement}
 use Rattle.printed.proofs.page.body_start.Tie as tie
 

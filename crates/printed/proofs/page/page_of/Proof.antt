@@ -6,7 +6,8 @@ use native.Mathlib.Omega.{arith}
 use lib.ListN.{length}
 use denote.Ref.{now}
 use Rattle.printed.specs.Page.{tableText, pageOf}
-use Rattle.printed.proofs.Texts.{put-padded, padded-whole, table-text, table-length, refusal-text}
+use Rattle.lines.proofs.Texts.{put-padded}
+use Rattle.printed.proofs.Shown.{padded-whole, table-text, table-length, refusal-text}
 use borrow.Author.Needs.{needs}
 use Rattle.printed.proofs.page.page_of.Statement.{statement}
 use Rattle.printed.proofs.page.page_of.Tie as tie

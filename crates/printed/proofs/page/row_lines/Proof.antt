@@ -4,7 +4,7 @@ use mathlib.Core.Path.{_≡_, _∙_, ap}
 use native.Mathlib.Omega.{arith}
 use lib.ListN.{length, getD, length-set, length-replicate}
 use denote.Ref.{now}
-use Rattle.printed.proofs.Copies.{copied-more, copied-all}
+use Rattle.lines.proofs.Copies.{copied-more, copied-all}
 use Rattle.printed.specs.Page.{tableByte, tableText}
 use borrow.Author.Needs.{needs}
 use Rattle.printed.proofs.page.row_lines.Statement.{statement}

@@ -1,5 +1,4 @@
 -- `stored::sheet::clause_part` meets its contract.
-use borrow.Author.Needs.{needs}
 use Rattle.stored.proofs.sheet.clause_part.Statement.{statement}
 use Rattle.stored.proofs.sheet.clause_part.Tie as tie
 use native.Mathlib.Omega.{arith}

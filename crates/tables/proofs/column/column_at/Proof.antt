@@ -2,7 +2,7 @@
 use mathlib.Core.Path.{refl}
 use native.Mathlib.Omega.{arith}
 use borrow.Author.Needs.{needs}
-use Rattle.stored.specs.Columns.{columnAt}
+use Rattle.traces.specs.Columns.{columnAt}
 use Rattle.tables.proofs.column.column_at.Statement.{statement}
 use Rattle.tables.proofs.column.column_at.Tie as tie
 

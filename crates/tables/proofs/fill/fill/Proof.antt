@@ -5,7 +5,7 @@ use Prim.Native.Nat.{_-_}
 use mathlib.Core.Logic.{⊎-elim}
 use borrow.Author.Tests.{eq-eqb}
 use lib.ListN.{length}
-use Rattle.stored.specs.Columns.{traceOf, marksOf}
+use Rattle.traces.specs.Columns.{traceOf, marksOf}
 use Rattle.stored.specs.Node.{nodeAt}
 use Rattle.stored.specs.Reach.{joint, entryOf}
 use Rattle.tables.specs.Ready.{apart}

@@ -4,7 +4,7 @@ use Prim.Native.Nat.{_+_}
 use borrow.Author.Needs.{needs}
 use borrow.Author.Tests.{eq-eqb, ne-eqb}
 use lib.ListN.{set}
-use Rattle.stored.specs.Columns.{columnAt}
+use Rattle.traces.specs.Columns.{columnAt}
 use Rattle.tables.specs.Ready.{markedAt, withName, changed}
 use Rattle.tables.proofs.fill.move_name.Statement.{statement}
 use Rattle.tables.proofs.fill.move_name.Tie as tie

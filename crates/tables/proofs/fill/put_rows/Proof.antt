@@ -4,7 +4,7 @@ use native.Mathlib.Omega.{arith}
 use Prim.Native.Nat.{_≤_}
 use lib.ListN.{length, length-set}
 use Rattle.stored.specs.declared.Node.{Node}
-use Rattle.stored.specs.Columns.{traceOf, marksOf}
+use Rattle.traces.specs.Columns.{traceOf, marksOf}
 use Rattle.stored.specs.Node.{nodeAt}
 use Rattle.tables.specs.Step.{isPair}
 use Rattle.tables.proofs.Nodes.{formula-read}

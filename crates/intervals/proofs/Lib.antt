@@ -1,0 +1,6 @@
+-- Laws of the search and of the rows that it reads.
+pub mod Outside
+pub mod Places
+pub mod Found
+pub mod Searching
+pub mod Gathered

@@ -1,0 +1,3 @@
+-- Stored traces, and the columns that they tell.
+pub mod Trace
+pub mod Columns
