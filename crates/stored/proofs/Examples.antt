@@ -12,7 +12,7 @@ use Rattle.stored.specs.Tree.{pick, earlier, deep, made, propositionOp, 
 use Rattle.stored.specs.Clause.{storedAt, partsUsed, partRight, clauseRight, partNamed, clauseNamed, clauseRightAt, clauseNamedAt}
 use Rattle.stored.specs.Sheet.{headerOf, nodePart, clausePart, nodesOf, storedOf, framed, versioned, ofKindOne, counted, sized, nodesRight, operandsFound, clausesRight, clausesNamed, sheetRules, sheetRefusal}
 
-unfoldable pub computing : ℕ
+unfoldable computing : ℕ
 unfolding word framedFrom everyBelow inOrder lowest nodeAt sortOf qUse aUse bUse fieldRight fieldsRight nodeRight sortBelow operandRight operandsRight isFormulaNode pick earlier deep made propositionOp formulaOp propositionOf propositionStep propositionAt formulaOf formulaStep formulaAt storedAt partsUsed partRight clauseRight partNamed clauseNamed clauseRightAt clauseNamedAt headerOf nodePart clausePart nodesOf storedOf framed versioned ofKindOne counted sized nodesRight operandsFound clausesRight clausesNamed sheetRules sheetRefusal within propositionWithin bit
 computing = 0
 

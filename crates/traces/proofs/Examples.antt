@@ -6,7 +6,7 @@ use lib.ListN.{set}
 use Rattle.stored.specs.Bytes.{word, framedFrom, everyBelow, inOrder, lowest}
 use Rattle.traces.specs.Trace.{cycleCount, cycleAt, traceFramed, traceVersioned, sameSignals, cycleRight, cyclesRight, traceRules, traceRefusal, cyclesOf}
 
-unfoldable pub computing : ℕ
+unfoldable computing : ℕ
 unfolding word framedFrom everyBelow inOrder lowest cycleCount cycleAt traceFramed traceVersioned sameSignals cycleRight cyclesRight traceRules traceRefusal cyclesOf
 computing = 0
 
