@@ -9,3 +9,4 @@ pub mod Read
 pub mod Bounds
 pub mod Examples
 pub mod Next
+pub mod Sorted

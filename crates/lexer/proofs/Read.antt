@@ -5,15 +5,16 @@ use mathlib.Core.List.{List, [], _∷_}
 use mathlib.Core.Path.{_≡_, refl, sym, ap, _∙_}
 use native.Mathlib.Omega.{arith}
 use lib.ListN.{length, getD, take, drop, length-drop, drop-of-length-le}
-use lib.Seq.{drop-cons, take-all}
+use lib.Seq.{drop-cons, take-all, getD-drop}
 use Rattle.grammar.specs.Token.{Token, spellings, isBlank, isDigit, numbered, tokens, tokensPast}
+use Rattle.grammar.specs.Class.{classOf}
 use Rattle.lexer.specs.declared.Lexed.{Lexed}
 use Rattle.lexer.specs.declared.Token.{Token as Lexeme}
 use Rattle.lexer.specs.declared.Token.the-variants.{End}
 use Rattle.lexer.specs.Lexed.{meant, isEnd, leads, Bounded, Means, Skipped, Munched, Next}
 use Rattle.lexer.specs.declared.numbers.Numeral.{Numeral}
 use Rattle.lexer.specs.declared.spellings.Spelled.{Spelled}
-use Rattle.lexer.specs.Table.{tokenOf, Found}
+use Rattle.lexer.specs.Rows.{tokenOf, Found}
 use Rattle.lexer.proofs.Digits.{digits-more}
 use Rattle.lexer.proofs.Tokens.{allSpelt, spelling-long, spelling-fits, number-at, spelling-at}
 
@@ -43,6 +44,14 @@ number-read text at r t h e munched means =
 pub found-rest : (text : List ℕ) (at : ℕ) (r : Spelled) → Found spellings (take (length text - at) (drop at text)) r
     → Found spellings (drop at text) r
 found-rest text at r found = rw (take-all (length text - at) (drop at text) (omega (arith, length-drop at text))) at found
+
+-- and the class of its first byte
+pub rest-class : (text : List ℕ) (at class : ℕ) → at < length text → class ≡ classOf (getD text at 0)
+    → (0 < length (take (length text - at) (drop at text))) × (class ≡ classOf (getD (take (length text - at) (drop at text)) 0 0))
+rest-class text at class h e =
+    let here : at + 0 ≡ at = omega arith in
+    rw (take-all (length text - at) (drop at text) (omega (arith, length-drop at text)), getD-drop at text 0 0, here)
+    (omega (arith, length-drop at text), e)
 
 -- the word or sign that starts at this place
 module _ (text : List ℕ) (at : ℕ) (r : Spelled) (h : at < length text) (found : Found spellings (drop at text) r) where

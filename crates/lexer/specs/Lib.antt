@@ -1,3 +1,3 @@
--- The lexer: its table, and what it reads.
-pub mod Table
+-- The lexer: its rows of spellings, and what it reads.
+pub mod Rows
 pub mod Lexed

@@ -1,17 +1,24 @@
 // How deep the round brackets of a text go.
+use crate::lookup::class_of;
+use crate::lookup::class_table;
+use classes::BRACKET;
 ghost use mathlib.Core.Path.{_≡_};
 ghost use Prim.Native.Nat.{_≤_};
+ghost use Rattle.grammar.specs.Class.{classTable};
 ghost use Rattle.grammar.specs.Brackets.{openAfter, tooDeep};
 
 // How many brackets are open after byte b.
-fn open_after(depth: usize, b: u8) -> usize
-    requires { ⌜ depth ≤ 32 ⌝ }
+fn open_after(table: &[u8], depth: usize, b: u8) -> usize
+    requires { ⌜ (now table ≡ classTable) × (depth ≤ 32) ⌝ }
     ensures { λ r. ⌜ r ≡ openAfter depth b ⌝ }
 {
-    if b == 40 {
+    if class_of(table, b) != BRACKET {
+        return depth;
+    }
+    if b == b'(' {
         return depth + 1;
     }
-    if b != 41 {
+    if b != b')' {
         return depth;
     }
     if depth == 0 {
@@ -24,10 +31,11 @@ fn open_after(depth: usize, b: u8) -> usize
 pub fn too_deep(text: &[u8]) -> bool
     ensures { λ r. ⌜ r ≡ tooDeep (now (text .entry)) ⌝ }
 {
+    let table = class_table();
     let mut depth: usize = 0;
     let mut i: usize = 0;
     while i < text.len() {
-        depth = open_after(depth, text[i]);
+        depth = open_after(&table, depth, text[i]);
         if 32 < depth {
             return true;
         }

@@ -1,13 +1,17 @@
 // The words, numbers and signs of a typed text, one after the other, and how deep its round brackets go.
 pub mod brackets;
-pub mod classes;
+pub mod lookup;
 pub mod numbers;
 pub mod spellings;
+pub mod table;
 
-use crate::classes::is_blank;
-use crate::classes::is_digit;
-use crate::classes::is_line_end;
+use crate::lookup::class_of;
+use crate::lookup::class_table;
+use classes::BLANK;
+use classes::DIGIT;
+use classes::LINE_END;
 ghost use mathlib.Core.Path.{_≡_};
+ghost use Rattle.grammar.specs.Class.{classTable};
 ghost use Rattle.grammar.specs.Spelled.{endsLine};
 ghost use Rattle.lexer.specs.Lexed.{Skipped, Next};
 
@@ -28,15 +32,17 @@ pub struct Lexed {
 }
 
 // The first place from `at` on that has no blank.
-fn skip_blanks(text: &[u8], at: usize) -> usize
+fn skip_blanks(table: &[u8], text: &[u8], at: usize) -> usize
+    requires { ⌜ now table ≡ classTable ⌝ }
     ensures { λ r. ⌜ Skipped (now (text .entry)) at r ⌝ }
 {
     let mut i = at;
     while i < text.len() {
-        if !is_blank(text[i]) {
+        let after = i + 1;
+        if class_of(table, text[i]) != BLANK {
             return i;
         }
-        i += 1;
+        i = after;
     }
     i
 }
@@ -45,17 +51,19 @@ fn skip_blanks(text: &[u8], at: usize) -> usize
 pub fn next(text: &[u8], at: usize) -> Lexed
     ensures { λ r. ⌜ Next (now (text .entry)) at r ⌝ }
 {
-    let start = skip_blanks(text, at);
+    let table = class_table();
+    let start = skip_blanks(&table, text, at);
     if text.len() <= start {
         return Lexed {
             token: Token::End,
             at: text.len(),
         };
     }
-    if is_digit(text[start]) {
-        return numbers::number_at(text, start);
+    let class = class_of(&table, text[start]);
+    if class == DIGIT {
+        return numbers::number_at(&table, text, start);
     }
-    spellings::spelling_at(text, start)
+    spellings::spelling_at(text, start, class)
 }
 
 // Whether the last byte is a line end.
@@ -66,5 +74,6 @@ pub fn ends_line(text: &[u8]) -> bool
     if size == 0 {
         return false;
     }
-    is_line_end(text[size - 1])
+    let table = class_table();
+    class_of(&table, text[size - 1]) == LINE_END
 }

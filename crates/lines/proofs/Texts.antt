@@ -101,14 +101,14 @@ put-last {x} {y} {at} {r} n h p =
     (put-then p (record { bytes = refl; end = refl }))
 
 -- a word, byte by byte
-pub word-more : (x w : List ℕ) (k : ℕ) → k < length w → set (sets x 0 (take k w)) k (getD w k 0) ≡ sets x 0 (take (k + 1) w)
-word-more x w k h =
+pub word-more : (x w : List ℕ) (at k : ℕ) → k < length w → set (sets x at (take k w)) (at + k) (getD w k 0) ≡ sets x at (take (k + 1) w)
+word-more x w at k h =
     let long = length-take-le k w (omega arith) in
-    let at : k ≡ 0 + length (take k w) = omega arith in
+    let end : at + k ≡ at + length (take k w) = omega arith in
     let next : suc k ≡ k + 1 = omega arith in
-    ap (λ (j : ℕ). set (sets x 0 (take k w)) j (getD w k 0)) at
-    ∙ sets-then x 0 (take k w) (getD w k 0 ∷ [])
-    ∙ ap (λ (l : List ℕ). sets x 0 l) (sym (take-suc w k 0 h) ∙ ap (λ (j : ℕ). take j w) next)
+    ap (λ (j : ℕ). set (sets x at (take k w)) j (getD w k 0)) end
+    ∙ sets-then x at (take k w) (getD w k 0 ∷ [])
+    ∙ ap (λ (l : List ℕ). sets x at l) (sym (take-suc w k 0 h) ∙ ap (λ (j : ℕ). take j w) next)
 
 -- a text put at the start of zeros
 pub padded-put : (n : ℕ) (l : List ℕ) → length l ≤ n → sets (replicate n 0) 0 l ≡ padded n l

@@ -3,17 +3,17 @@ ghost use Prim.Native.Nat.{_+_, _*_, _≤_, _<_};
 ghost use lib.ListN.{length};
 ghost use Rattle.lines.specs.Lines.{decimalOf, lineWith, ThreeDigits, refusedText, Put};
 
-// Puts a word at the start and gives its length.
-fn put_word(out: &mut [u8], word: &[u8]) -> usize
-    requires { ⌜ length (now word) ≤ length (now out) ⌝ }
-    ensures { λ r. ⌜ Put (now (out .entry)) (now (out .exit)) 0 r (now (word .entry)) ⌝ }
+// Puts a word and gives the place after it.
+pub fn put_word(out: &mut [u8], at: usize, word: &[u8]) -> usize
+    requires { ⌜ at + length (now word) ≤ length (now out) ⌝ }
+    ensures { λ r. ⌜ Put (now (out .entry)) (now (out .exit)) at r (now (word .entry)) ⌝ }
 {
     let mut k = 0;
     while k < word.len() {
-        out[k] = word[k];
+        out[at + k] = word[k];
         k += 1;
     }
-    k
+    at + k
 }
 
 // Puts a number in decimal and gives the place after it.
@@ -35,7 +35,7 @@ pub fn put_line(out: &mut [u8], word: &[u8], numbers: &[usize]) -> usize
     requires { ⌜ (length (now word) + 4 * length (now numbers) < length (now out)) × ThreeDigits (now numbers) ⌝ }
     ensures { λ r. ⌜ Put (now (out .entry)) (now (out .exit)) 0 r (lineWith (now (word .entry)) (now (numbers .entry))) ⌝ }
 {
-    let mut at = put_word(out, word);
+    let mut at = put_word(out, 0, word);
     let mut t = 0;
     while t < numbers.len() {
         out[at] = b' ';

@@ -1,12 +1,15 @@
 -- `lexer::ends_line` meets its contract.
-use Prim.Native.Nat.{_-_}
-use mathlib.Core.Path.{_≡_, sym, ap}
+use Prim.Native.Nat.{ℕ, _-_}
+use mathlib.Core.Path.{_≡_, sym, ap, _∙_}
 use native.Mathlib.Omega.{arith}
+use lib.Dec.{eqb}
 use lib.ListN.{length, getD, List·getD-eq-default}
 use borrow.Author.Needs.{needs}
 use denote.Ref.{now}
 use Rattle.grammar.specs.Token.{isLineEnd}
+use Rattle.grammar.specs.Class.{lineEndClass}
 use Rattle.grammar.specs.Spelled.{endsLine}
+use Rattle.lexer.proofs.Classes.{line-end-class}
 use Rattle.lexer.proofs.ends_line.Statement.{statement}
 use Rattle.lexer.proofs.ends_line.Tie as tie
 
@@ -17,20 +20,33 @@ returns c =
     let none : getD text (length text - 1) 0 ≡ 0 = List·getD-eq-default text 0 (omega (arith, c .if1 .taken)) in
     sym (ap isLineEnd none)
 
-sub-is-line-end : tie.Need-sub-is-line-end
-sub-is-line-end c = search needs
+class-table-requires : tie.Need-class-table-requires
+class-table-requires c κs = search needs
 
-shared-slice-read-is-line-end : tie.Need-shared-slice-read-is-line-end
-shared-slice-read-is-line-end c = search needs
+slice-aggregate-class-of : tie.Need-slice-aggregate-class-of
+slice-aggregate-class-of c = search needs
 
-is-line-end-requires : tie.Need-is-line-end-requires
-is-line-end-requires c κs = search needs
+sub-class-of : tie.Need-sub-class-of
+sub-class-of c = search needs
+
+shared-slice-read-class-of : tie.Need-shared-slice-read-class-of
+shared-slice-read-class-of c = search needs
+
+class-of-requires : tie.Need-class-of-requires
+class-of-requires c κs = c .before .before .class-table .ensures
 
 returns-2 : tie.Need-returns-2
 unfolding endsLine
-returns-2 c = c .is-line-end .ensures
+returns-2 c = ap (λ (k : ℕ). eqb k lineEndClass) (c .class-of .ensures) ∙ sym (line-end-class _)
 
 pub ends-line-spec : {M : Type 1} → statement M
 ends-line-spec =
     tie.close
-    (tie.spec returns sub-is-line-end shared-slice-read-is-line-end is-line-end-requires returns-2)
+    (tie.spec
+    returns
+    class-table-requires
+    slice-aggregate-class-of
+    sub-class-of
+    shared-slice-read-class-of
+    class-of-requires
+    returns-2)

@@ -2,20 +2,21 @@
 use Prim.Native.Nat.{_+_, _-_, _*_, _≤_}
 use mathlib.Core.Path.{_≡_, refl, sym, ap, _∙_}
 use native.Mathlib.Omega.{arith}
-use borrow.Author.Tests.{not-true, not-false}
 use lib.ListN.{length, getD, drop}
-use Rattle.grammar.specs.Token.{digits, numberFrom, numbered}
+use Rattle.grammar.specs.Token.{isDigit, digits, numberFrom, numbered}
+use Rattle.grammar.specs.Class.{digitClass}
+use Rattle.lexer.proofs.Classes.{digit-class, told, untold}
 use Rattle.lexer.proofs.Digits.{numbered-capped, capped-most, digits-more, number-more, digits-none, number-done, digits-end, number-end}
 use Rattle.lexer.proofs.numbers.munch.Statement.{statement}
 use Rattle.lexer.proofs.numbers.munch.Tie as tie
 
 abbrev Inv-loop : tie.InvT-loop
-Inv-loop text at value₀ i₀ value i =
+Inv-loop table text at value₀ i₀ value i =
     (i ≤ length text) × (value ≤ 65536) × (at + digits (drop at text) ≡ i + digits (drop i text))
     × (numbered (numberFrom 0 (drop at text)) ≡ numbered (numberFrom value (drop i text)))
 
 abbrev μ-loop : tie.MeasureT-loop
-μ-loop text at value₀ i₀ value i = length text - i
+μ-loop table text at value₀ i₀ value i = length text - i
 
 loop-holds : tie.Need-loop-holds Inv-loop μ-loop
 loop-holds c = (omega arith, omega arith, refl, refl)
@@ -23,14 +24,14 @@ loop-holds c = (omega arith, omega arith, refl, refl)
 shared-slice-read-b : tie.Need-shared-slice-read-b Inv-loop μ-loop
 shared-slice-read-b c = omega arith
 
-is-digit-requires : tie.Need-is-digit-requires Inv-loop μ-loop
-is-digit-requires c κs = omega arith
+class-of-requires : tie.Need-class-of-requires Inv-loop μ-loop
+class-of-requires c κs = c .before .before .before .before .before .pre .0
 
 returns : tie.Need-returns Inv-loop μ-loop
 returns c =
     let at = c .before .before .before .before .loop in
-    let text = c .before .before .before .before .before .before .args .text .now in
-    let none = sym (c .before .is-digit .ensures) ∙ not-true (c .before .is-digit .result) (c .if1 .taken) in
+    let text = c .before .before .before .before .before .before .before .args .text .now in
+    let none = untold isDigit digitClass digit-class _ _ (c .before .class-of .ensures) (c .if1 .taken) in
     record {
       value = at .inv .3 ∙ ap numbered (number-done text (at .i) (at .value) (omega arith) none);
       past = omega (arith, digits-none text (at .i) (omega arith) none);
@@ -38,7 +39,7 @@ returns c =
     }
 
 with-digit-requires : tie.Need-with-digit-requires Inv-loop μ-loop
-with-digit-requires c κs = (omega arith, sym (c .before .is-digit .ensures) ∙ not-false (c .before .is-digit .result) (c .if1 .left))
+with-digit-requires c κs = (omega arith, told isDigit digitClass digit-class _ _ (c .before .class-of .ensures) (c .if1 .left))
 
 add-i : tie.Need-add-i Inv-loop μ-loop
 add-i c = omega arith
@@ -49,8 +50,8 @@ loop-less c = omega arith
 loop-again : tie.Need-loop-again Inv-loop μ-loop
 loop-again c =
     let at = c .before .before .before .before .before .loop in
-    let text = c .before .before .before .before .before .before .before .args .text .now in
-    let one = sym (c .before .before .is-digit .ensures) ∙ not-false (c .before .before .is-digit .result) (c .before .if1 .left) in
+    let text = c .before .before .before .before .before .before .before .before .args .text .now in
+    let one = told isDigit digitClass digit-class _ _ (c .before .before .class-of .ensures) (c .before .if1 .left) in
     let n = at .value * 10 + (getD text (at .i) 0 - 48) in (
       omega arith,
       rw (c .with-digit .ensures) (capped-most n),
@@ -62,7 +63,7 @@ loop-again c =
 returns-2 : tie.Need-returns-2 Inv-loop μ-loop
 returns-2 c =
     let at = c .before .loop in
-    let text = c .before .before .before .args .text .now in
+    let text = c .before .before .before .before .args .text .now in
     record {
       value = at .inv .3 ∙ ap numbered (number-end text (at .i) (at .value) (omega arith));
       past = omega (arith, digits-end text (at .i) (omega arith));
@@ -77,7 +78,7 @@ munch-spec =
     μ-loop
     loop-holds
     shared-slice-read-b
-    is-digit-requires
+    class-of-requires
     returns
     with-digit-requires
     add-i

@@ -1,21 +1,25 @@
 -- `lexer::spellings::find` meets its contract.
-use Prim.Native.Nat.{_+_, _-_, _*_, _≤_}
-use mathlib.Core.Path.{_≡_, refl, _∙_}
+use Prim.Native.Nat.{_+_, _-_, _*_, _/_, _≤_}
+use mathlib.Core.Path.{_≡_, _∙_}
 use native.Mathlib.Omega.{arith}
+use lib.ListN.{length}
 use Rattle.grammar.specs.Token.{spellingOf}
-use Rattle.lexer.specs.Table.{rowsFrom}
-use Rattle.lexer.proofs.Table.{row-found, row-passed, none-found, found-later}
+use Rattle.lexer.specs.Rows.{rowsFrom}
+use Rattle.lexer.proofs.Rows.{row-found, row-passed, none-found, found-later}
 use Rattle.lexer.proofs.spellings.find.Statement.{statement}
 use Rattle.lexer.proofs.spellings.find.Tie as tie
 
 abbrev Inv-loop : tie.InvT-loop
-Inv-loop rows text i₀ i = (i ≤ 56) × (spellingOf (rowsFrom rows 56 0) text ≡ spellingOf (rowsFrom rows (56 - i) i) text)
+Inv-loop rows text count i₀ i = (i ≤ count) × (spellingOf (rowsFrom rows count 0) text ≡ spellingOf (rowsFrom rows (count - i) i) text)
 
 abbrev μ-loop : tie.MeasureT-loop
-μ-loop rows text i₀ i = 56 - i
+μ-loop rows text count i₀ i = count - i
 
 loop-holds : tie.Need-loop-holds Inv-loop μ-loop
-loop-holds c = (omega arith, refl)
+loop-holds c =
+    let count = length (c .before .before .args .rows .now) / 9 in
+    let all : count - 0 ≡ count = omega arith in
+    (omega arith, rw all)
 
 mul-at : tie.Need-mul-at Inv-loop μ-loop
 mul-at c = omega arith
@@ -35,21 +39,21 @@ part-word-match-end c = omega arith
 word-match-requires : tie.Need-word-match-requires Inv-loop μ-loop
 word-match-requires c κs = omega arith
 
-add-t12 : tie.Need-add-t12 Inv-loop μ-loop
-add-t12 c = omega arith
+add-t14 : tie.Need-add-t14 Inv-loop μ-loop
+add-t14 c = omega arith
 
-shared-slice-read-t14 : tie.Need-shared-slice-read-t14 Inv-loop μ-loop
-shared-slice-read-t14 c = omega arith
+shared-slice-read-t16 : tie.Need-shared-slice-read-t16 Inv-loop μ-loop
+shared-slice-read-t16 c = omega arith
 
-cast-t15 : tie.Need-cast-t15 Inv-loop μ-loop
-cast-t15 c = omega (arith, c .shared-slice-known3 .given (9 * c .before .before .before .before .before .loop .i + 8))
+cast-t17 : tie.Need-cast-t17 Inv-loop μ-loop
+cast-t17 c = omega (arith, c .shared-slice-known3 .given (9 * c .before .before .before .before .before .loop .i + 8))
 
 returns : tie.Need-returns Inv-loop μ-loop
 returns c =
     let at = c .before .before .before .before .before .loop in
     let eight : 9 * at .i + 8 - 9 * at .i ≡ 8 = omega arith in
     found-later _ _ _ _ (at .inv .1)
-    (row-found _ _ (at .i) (omega arith) _ (rw eight at (c .before .before .word-match .ensures)) (c .before .if1 .taken))
+    (row-found _ _ _ (at .i) (omega arith) _ (rw eight at (c .before .before .word-match .ensures)) (c .before .if1 .taken))
 
 add-i : tie.Need-add-i Inv-loop μ-loop
 add-i c = omega arith
@@ -61,13 +65,12 @@ loop-again : tie.Need-loop-again Inv-loop μ-loop
 loop-again c =
     let at = c .before .before .before .before .loop in
     let eight : 9 * at .i + 8 - 9 * at .i ≡ 8 = omega arith in
-    (omega arith, at .inv .1 ∙ row-passed _ _ (at .i) (omega arith) _ (rw eight at (c .before .word-match .ensures)) (c .if1 .left))
+    (omega arith, at .inv .1 ∙ row-passed _ _ _ (at .i) (omega arith) _ (rw eight at (c .before .word-match .ensures)) (c .if1 .left))
 
 returns-2 : tie.Need-returns-2 Inv-loop μ-loop
 returns-2 c =
     let at = c .before .loop in
-    let end : at .i ≡ 56 = omega arith in
-    found-later _ _ _ _ (rw end at (at .inv .1)) (none-found _ _)
+    found-later _ _ _ _ (at .inv .1) (none-found _ _ _ (at .i) (omega arith))
 
 pub find-spec : {M : Type 1} → statement M
 find-spec =
@@ -82,9 +85,9 @@ find-spec =
     part-word-match-start
     part-word-match-end
     word-match-requires
-    add-t12
-    shared-slice-read-t14
-    cast-t15
+    add-t14
+    shared-slice-read-t16
+    cast-t17
     returns
     add-i
     loop-less

@@ -1,7 +1,7 @@
 -- `lexer::spellings::stands` meets its contract.
 use native.Mathlib.Omega.{arith}
 use mathlib.Core.Path.{sym}
-use Rattle.lexer.proofs.Table.{stands-here, stands-past}
+use Rattle.lexer.proofs.Rows.{stands-here, stands-past}
 use Rattle.lexer.proofs.spellings.stands.Statement.{statement}
 use Rattle.lexer.proofs.spellings.stands.Tie as tie
 

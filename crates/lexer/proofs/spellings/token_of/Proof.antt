@@ -2,7 +2,7 @@
 use mathlib.Core.Path.{refl}
 use native.Mathlib.Omega.{arith}
 use borrow.Author.Tests.{le-leb, lt-leb}
-use Rattle.lexer.specs.Table.{tokenOf}
+use Rattle.lexer.specs.Rows.{tokenOf}
 use Rattle.lexer.specs.Lexed.{meant, isEnd}
 use Rattle.lexer.proofs.spellings.token_of.Statement.{statement}
 use Rattle.lexer.proofs.spellings.token_of.Tie as tie

@@ -4,8 +4,8 @@ use mathlib.Core.Path.{_≡_, refl, sym, _∙_}
 use native.Mathlib.Omega.{arith}
 use borrow.Author.Tests.{not-true, not-false}
 use lib.ListN.{length, drop}
-use Rattle.lexer.specs.Table.{wordMatch}
-use Rattle.lexer.proofs.Table.{match-end, match-blank, match-fails, match-goes-on}
+use Rattle.lexer.specs.Rows.{wordMatch}
+use Rattle.lexer.proofs.Rows.{match-end, match-filled, match-fails, match-goes-on}
 use Rattle.lexer.proofs.spellings.word_match.Statement.{statement}
 use Rattle.lexer.proofs.spellings.word_match.Tie as tie
 
@@ -24,7 +24,7 @@ shared-slice-read-b c = omega arith
 returns : tie.Need-returns Inv-loop μ-loop
 returns c =
     let at = c .before .before .before .loop in
-    sym (at .inv .1 ∙ match-blank _ _ (at .k) (omega arith) (c .if1 .taken))
+    sym (at .inv .1 ∙ match-filled _ _ (at .k) (omega arith) (c .if1 .taken))
 
 stands-requires : tie.Need-stands-requires Inv-loop μ-loop
 stands-requires c κs = omega arith

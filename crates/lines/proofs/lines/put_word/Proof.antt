@@ -1,5 +1,5 @@
 -- `lines::lines::put_word` meets its contract.
-use Prim.Native.Nat.{ℕ, _-_, _≤_}
+use Prim.Native.Nat.{ℕ, _+_, _-_, _≤_}
 use mathlib.Core.List.{List}
 use mathlib.Core.Path.{_≡_, refl, _∙_, ap}
 use native.Mathlib.Omega.{arith}
@@ -11,16 +11,19 @@ use Rattle.lines.proofs.lines.put_word.Statement.{statement}
 use Rattle.lines.proofs.lines.put_word.Tie as tie
 
 abbrev Inv-loop : tie.InvT-loop
-Inv-loop out₀ word k₀ out k = (k ≤ length word) × (length out ≡ length out₀) × (out ≡ sets out₀ 0 (take k word))
+Inv-loop out₀ at word k₀ out k = (k ≤ length word) × (length out ≡ length out₀) × (out ≡ sets out₀ at (take k word))
 
 abbrev μ-loop : tie.MeasureT-loop
-μ-loop out₀ word k₀ out k = length word - k
+μ-loop out₀ at word k₀ out k = length word - k
 
 loop-holds : tie.Need-loop-holds Inv-loop μ-loop
 loop-holds c = (omega arith, refl, refl)
 
 shared-slice-read-out : tie.Need-shared-slice-read-out Inv-loop μ-loop
 shared-slice-read-out c = search needs
+
+add-out : tie.Need-add-out Inv-loop μ-loop
+add-out c = omega (arith, c .before .before .before .pre, c .before .before .before .good)
 
 slice-write-out : tie.Need-slice-write-out Inv-loop μ-loop
 slice-write-out c = omega (arith, c .before .before .loop .inv .1, c .before .before .before .pre)
@@ -36,9 +39,12 @@ loop-again c =
     let at = c .before .before .loop in
     let a = c .before .before .before .args in (
       omega arith,
-      length-set (at .out) (at .k) _ ∙ at .inv .1,
-      ap (λ (l : List ℕ). set l (at .k) (getD (a .word .now) (at .k) 0)) (at .inv .2) ∙ word-more (a .out .now) (a .word .now) (at .k) (omega arith),
+      length-set (at .out) (a .at + at .k) _ ∙ at .inv .1,
+      ap (λ (l : List ℕ). set l (a .at + at .k) (getD (a .word .now) (at .k) 0)) (at .inv .2) ∙ word-more (a .out .now) (a .word .now) (a .at) (at .k) (omega arith),
     )
+
+add-result : tie.Need-add-result Inv-loop μ-loop
+add-result c = omega (arith, c .before .before .pre, c .before .before .good)
 
 same-length : tie.Need-same-length Inv-loop μ-loop
 same-length c = search needs
@@ -48,7 +54,7 @@ returns c =
     let at = c .before .loop in
     let a = c .before .before .args in
     record {
-      bytes = at .inv .2 ∙ ap (λ (l : List ℕ). sets (a .out .now) 0 l) (take-all (at .k) (a .word .now) (omega arith));
+      bytes = at .inv .2 ∙ ap (λ (l : List ℕ). sets (a .out .now) (a .at) l) (take-all (at .k) (a .word .now) (omega arith));
       end = omega arith;
     }
 
@@ -60,9 +66,11 @@ put-word-spec =
     μ-loop
     loop-holds
     shared-slice-read-out
+    add-out
     slice-write-out
     add-k
     loop-less
     loop-again
+    add-result
     same-length
     returns)

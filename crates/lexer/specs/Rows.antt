@@ -1,22 +1,36 @@
--- The lexer's table of spellings: rows of nine bytes, a word or sign that blanks fill up to eight, and the number of its token.
+-- The lexer's tables of spellings: rows of nine bytes, a word or sign that full stops fill up to eight, and the number of its token.
 use Prim.Native.Nat.{ℕ, zero, suc, _+_, _-_, _*_}
-use mathlib.Core.Bool.{Bool, false, cond}
+use mathlib.Core.Bool.{Bool, true, false, cond}
 use mathlib.Core.List.{List, [], _∷_}
 use mathlib.Core.Path.{_≡_}
 use lib.Dec.{leb, eqb}
 use lib.ListN.{length, getD, take, drop}
+use Rattle.grammar.specs.Class.{classOf}
 use Rattle.grammar.specs.Token.{Token, plain, signalled, named, outside, Spelling, spelt, begins, spellingOf}
 use Rattle.lexer.specs.declared.spellings.Spelled.{Spelled}
+
+-- a byte of this class
+unfoldable pub isOf : ℕ → ℕ → Bool
+isOf class b = eqb (classOf b) class
+
+-- the spellings whose first byte passes a test
+unfoldable pub startsAs : (ℕ → Bool) → List ℕ → Bool
+startsAs p [] = true
+startsAs p (b ∷ word) = p b
+
+unfoldable pub those : (ℕ → Bool) → List Spelling → List Spelling
+those p [] = []
+those p (x ∷ more) = cond (startsAs p (x .bytes)) (x ∷ those p more) (those p more)
 
 -- the text begins with byte b
 unfoldable pub firstIs : ℕ → List ℕ → Bool
 firstIs b [] = false
 firstIs b (x ∷ text) = eqb b x
 
--- the bytes before the first blank
+-- the bytes before the first full stop
 unfoldable pub wordOf : List ℕ → List ℕ
 wordOf [] = []
-wordOf (b ∷ row) = cond (eqb b 32) [] (b ∷ wordOf row)
+wordOf (b ∷ row) = cond (eqb b 46) [] (b ∷ wordOf row)
 
 -- k and the length of the row's word where the text begins with it, else 9
 unfoldable pub wordMatch : ℕ → List ℕ → List ℕ → ℕ

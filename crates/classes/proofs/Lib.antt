@@ -1,0 +1,3 @@
+-- Laws of classes by their definition.
+pub mod Listed
+pub mod Asked

@@ -1,0 +1,2 @@
+-- Laws of the source file of the table.
+pub mod Lines

@@ -1,0 +1,2 @@
+-- The source file of the table of classes.
+pub mod File
