@@ -1,4 +1,4 @@
-// Words and signs by a table of their spellings.
+// Words and signs by tables of their spellings, one for each class of first bytes.
 use crate::Lexed;
 use crate::Token;
 use classes::BRACKET;
