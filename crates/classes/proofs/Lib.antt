@@ -1,3 +1,2 @@
 -- Laws of classes by their definition.
 pub mod Listed
-pub mod Asked

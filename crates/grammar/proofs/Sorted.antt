@@ -1,17 +1,28 @@
 -- The classes of bytes in order, and the table of all 256.
 use Prim.Native.Nat.{ℕ, zero, suc, _+_, _<_}
+use mathlib.Core.Bool.{Bool, cond}
 use mathlib.Core.List.{List, [], _∷_, _++_}
 use mathlib.Core.Path.{_≡_, refl, ap, _∙_}
 use native.Mathlib.Omega.{arith}
 use lib.ListN.{length, getD}
 use Rattle.grammar.specs.Spelled.{isAmong}
 use Rattle.grammar.specs.Token.{isBlank, isDigit, isLineEnd}
-use Rattle.grammar.specs.Class.{bytesFrom, bytesOf, isLetter, isBracket, isJoiner, classOf, classesFrom, classTable}
+use Rattle.grammar.specs.Class.{letterClass, digitClass, blankClass, bracketClass, joinerClass, lineEndClass, otherClass, bytesFrom, bytesOf, isLetter, isBracket, isJoiner, classOf, classesFrom, classTable}
 
 -- what the class of a given byte is computed by
 unfoldable pub sorting : ℕ
 unfolding isLetter isDigit isBlank isBracket isJoiner isLineEnd isAmong bytesFrom bytesOf classOf
 sorting = 0
+
+-- the class that the six tests give, asked in this order
+abbrev pub given : Bool → Bool → Bool → Bool → Bool → Bool → ℕ
+given letter digit blank bracket joiner end =
+    cond letter letterClass (cond digit digitClass (cond blank blankClass (cond bracket bracketClass (cond joiner joinerClass (cond end lineEndClass otherClass)))))
+
+pub class-given : (b : ℕ) {l d k r j e : Bool} → isLetter b ≡ l → isDigit b ≡ d → isBlank b ≡ k → isBracket b ≡ r → isJoiner b ≡ j → isLineEnd b ≡ e
+    → given l d k r j e ≡ classOf b
+unfolding classOf
+class-given b letter digit blank bracket joiner end = rw (letter, digit, blank, bracket, joiner, end)
 
 pub classes-long : (n b : ℕ) → length (classesFrom n b) ≡ n
 unfolding classesFrom

@@ -11,8 +11,8 @@ use lib.ListN.{length, getD}
 use Rattle.semantics.proofs.Tests.{test}
 use Rattle.grammar.specs.Brackets.{openAfter}
 use Rattle.grammar.specs.Token.{plain, lineEnd, Spelling, spelt, spellings, isBlank, isDigit, isLineEnd, begins, spellingOf}
-use Rattle.grammar.specs.Class.{letterClass, digitClass, blankClass, bracketClass, joinerClass, lineEndClass, otherClass, isLetter, isBracket, isJoiner, classOf}
-use Rattle.grammar.proofs.Sorted.{sorting}
+use Rattle.grammar.specs.Class.{letterClass, digitClass, blankClass, bracketClass, joinerClass, lineEndClass, isLetter, isBracket, isJoiner, classOf}
+use Rattle.grammar.proofs.Sorted.{sorting, given}
 use Rattle.lexer.specs.declared.spellings.Spelled.{Spelled}
 use Rattle.lexer.specs.Rows.{isOf, startsAs, those, wordOf, tokenOf, rowAt, rowsFrom, Found}
 use Rattle.lexer.proofs.Digits.{digit-high}
@@ -21,8 +21,9 @@ use Rattle.lexer.proofs.Rows.{found-later}
 -- ---- what a class says of its byte
 -- where a test is false, its class is not given
 untested : (l d k r j e : Bool)
-    → let c = cond l letterClass (cond d digitClass (cond k blankClass (cond r bracketClass (cond j joinerClass (cond e lineEndClass otherClass))))) in
-    (d ≡ false → eqb c digitClass ≡ false) × (k ≡ false → eqb c blankClass ≡ false) × (e ≡ false → eqb c lineEndClass ≡ false)
+    → (d ≡ false → eqb (given l d k r j e) digitClass ≡ false)
+    × (k ≡ false → eqb (given l d k r j e) blankClass ≡ false)
+    × (e ≡ false → eqb (given l d k r j e) lineEndClass ≡ false)
 untested true d k r j e = (λ _. refl, λ _. refl, λ _. refl)
 untested false true k r j e = (λ h. absurd (true≢false h), λ _. refl, λ _. refl)
 untested false false true r j e = (λ _. refl, λ h. absurd (true≢false h), λ _. refl)
@@ -32,8 +33,8 @@ untested false false false false false true = (λ _. refl, λ _. refl, λ h. abs
 untested false false false false false false = (λ _. refl, λ _. refl, λ _. refl)
 
 either-way : (q : Bool) (c x : ℕ) → (q ≡ true → c ≡ x) → (q ≡ false → eqb c x ≡ false) → q ≡ eqb c x
-either-way true c x given other = sym (eq-eqb c x (given refl))
-either-way false c x given other = sym (other refl)
+either-way true c x same other = sym (eq-eqb c x (same refl))
+either-way false c x same other = sym (other refl)
 
 module _ (b : ℕ) where
   digit-given : isDigit b ≡ true → classOf b ≡ digitClass
@@ -52,23 +53,20 @@ module _ (b : ℕ) where
   unfolding sorting
   line-end-given h = rw (eqb-true b 10 h)
 
-  pub digit-class : isDigit b ≡ eqb (classOf b) digitClass
+  not-given : (isDigit b ≡ false → eqb (classOf b) digitClass ≡ false)
+      × (isBlank b ≡ false → eqb (classOf b) blankClass ≡ false)
+      × (isLineEnd b ≡ false → eqb (classOf b) lineEndClass ≡ false)
   unfolding classOf
-  digit-class =
-      let none = untested (isLetter b) (isDigit b) (isBlank b) (isBracket b) (isJoiner b) (isLineEnd b) in
-      either-way (isDigit b) (classOf b) digitClass digit-given (none .0)
+  not-given = untested (isLetter b) (isDigit b) (isBlank b) (isBracket b) (isJoiner b) (isLineEnd b)
+
+  pub digit-class : isDigit b ≡ eqb (classOf b) digitClass
+  digit-class = either-way (isDigit b) (classOf b) digitClass digit-given (not-given .0)
 
   pub blank-class : isBlank b ≡ eqb (classOf b) blankClass
-  unfolding classOf
-  blank-class =
-      let none = untested (isLetter b) (isDigit b) (isBlank b) (isBracket b) (isJoiner b) (isLineEnd b) in
-      either-way (isBlank b) (classOf b) blankClass blank-given (none .1)
+  blank-class = either-way (isBlank b) (classOf b) blankClass blank-given (not-given .1)
 
   pub line-end-class : isLineEnd b ≡ eqb (classOf b) lineEndClass
-  unfolding classOf
-  line-end-class =
-      let none = untested (isLetter b) (isDigit b) (isBlank b) (isBracket b) (isJoiner b) (isLineEnd b) in
-      either-way (isLineEnd b) (classOf b) lineEndClass line-end-given (none .2)
+  line-end-class = either-way (isLineEnd b) (classOf b) lineEndClass line-end-given (not-given .2)
 
 -- the class that was asked for a byte, and the test that it stands for
 module _ (q : ℕ → Bool) (c : ℕ) (says : (b : ℕ) → q b ≡ eqb (classOf b) c) (r b : ℕ) (e : r ≡ classOf b) where
