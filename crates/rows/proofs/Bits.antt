@@ -8,7 +8,7 @@ use native.Mathlib.Omega.{arith}
 use lib.Dec.{leb, eqb, eqb·suc-zero, eqb·suc-suc}
 use lib.Arith.{digits-mod}
 use lib.Pow.{pow-pos, pow-mono, pow-add, shr-shr, shl-shr, field, mod-mod-pow}
-use lib.Bits.{bitAnd, bitOr, and-step, or-step, and-shr, or-shr}
+use lib.Bits.{bitAnd, bitOr, bitXor, differ, and-step, or-step, xor-step, and-shr, or-shr, xor-shr}
 use lib.Count.{ones, ones-step, under, trailingZeros}
 use borrow.Author.Tests.{leb-true, leb-false, eq-eqb, eqb-true, eqb-false}
 use Rattle.semantics.specs.Cycles.{countBelow}
@@ -54,11 +54,28 @@ max-digits x y (inl p) (inr q) = rw (p, q)
 max-digits x y (inr p) (inl q) = rw (p, q)
 max-digits x y (inr p) (inr q) = rw (p, q)
 
+differ-digits : (x y : ℕ) → (x ≡ 0) ⊎ (x ≡ 1) → (y ≡ 0) ⊎ (y ≡ 1) → eqb (differ x y) 1 ≡ cond (eqb x 1) (not (eqb y 1)) (eqb y 1)
+differ-digits x y (inl p) (inl q) = rw (p, q)
+differ-digits x y (inl p) (inr q) = rw (p, q)
+differ-digits x y (inr p) (inl q) = rw (p, q)
+differ-digits x y (inr p) (inr q) = rw (p, q)
+
 and-odd : (a b : ℕ) → bitAnd a b % 2 ≡ min (a % 2) (b % 2)
 and-odd a b = ap (λ (x : ℕ). x % 2) (and-step a b) ∙ digits-mod (bitAnd (a / 2) (b / 2)) (omega arith)
 
 or-odd : (a b : ℕ) → bitOr a b % 2 ≡ max (a % 2) (b % 2)
 or-odd a b = ap (λ (x : ℕ). x % 2) (or-step a b) ∙ digits-mod (bitOr (a / 2) (b / 2)) (omega arith)
+
+xor-odd : (a b : ℕ) → bitXor a b % 2 ≡ differ (a % 2) (b % 2)
+xor-odd a b =
+    ap (λ (x : ℕ). x % 2) (xor-step a b)
+    ∙ digits-mod (bitXor (a / 2) (b / 2)) (below-two (a % 2) (b % 2) (digit a) (digit b))
+  where
+    below-two : (x y : ℕ) → (x ≡ 0) ⊎ (x ≡ 1) → (y ≡ 0) ⊎ (y ≡ 1) → differ x y < 2
+    below-two x y (inl p) (inl q) = rw (p, q) (omega arith)
+    below-two x y (inl p) (inr q) = rw (p, q) (omega arith)
+    below-two x y (inr p) (inl q) = rw (p, q) (omega arith)
+    below-two x y (inr p) (inr q) = rw (p, q) (omega arith)
 
 pub bit-and : (a b k : ℕ) → bit (bitAnd a b) k ≡ (bit a k && bit b k)
 unfolding bit
@@ -73,6 +90,13 @@ bit-or a b k =
     ap (λ (x : ℕ). eqb (x % 2) 1) (or-shr a b k)
     ∙ ap (λ (x : ℕ). eqb x 1) (or-odd (a / 2 ^ k) (b / 2 ^ k))
     ∙ max-digits (a / 2 ^ k % 2) (b / 2 ^ k % 2) (digit (a / 2 ^ k)) (digit (b / 2 ^ k))
+
+pub bit-xor : (a b k : ℕ) → bit (bitXor a b) k ≡ cond (bit a k) (not (bit b k)) (bit b k)
+unfolding bit
+bit-xor a b k =
+    ap (λ (x : ℕ). eqb (x % 2) 1) (xor-shr a b k)
+    ∙ ap (λ (x : ℕ). eqb x 1) (xor-odd (a / 2 ^ k) (b / 2 ^ k))
+    ∙ differ-digits (a / 2 ^ k % 2) (b / 2 ^ k % 2) (digit (a / 2 ^ k)) (digit (b / 2 ^ k))
 
 pub bit-mod : (n x k : ℕ) → k < n → bit (x % 2 ^ n) k ≡ bit x k
 unfolding bit

@@ -1,12 +1,12 @@
 -- Laws of joins: chop and star by rows.
 use Prim.Native.Nat.{ℕ, suc, _+_, _-_, _^_, _≤_, _<_}
-use mathlib.Core.Bool.{Bool, true, not, _&&_, _||_}
+use mathlib.Core.Bool.{Bool, true, not, cond, _&&_, _||_}
 use mathlib.Core.Logic.{inl, inr}
 use mathlib.Core.Path.{_≡_, sym, ap, ap₂, _∙_}
 use native.Mathlib.Numerals.{add-one}
 use native.Mathlib.Omega.{arith}
 use lib.Dec.{leb, ltb, eqb}
-use lib.Bits.{bitAnd, bitOr, or-lt, or-zero-r}
+use lib.Bits.{bitAnd, bitOr, bitXor, or-lt, or-zero-r}
 use lib.Count.{trailingZeros}
 use borrow.Author.Tests.{ltb-true, lt-ltb, eqb-true}
 use Rattle.semantics.specs.Cycles.{someBelow, someIn}
@@ -16,7 +16,7 @@ use Rattle.rows.specs.Row.{word, row, joined, starred}
 use Rattle.semantics.proofs.Tests.{and-comm, same, test, false-not, is-false, both, and-left, and-right, or-left, or-right, or-elim}
 use Rattle.semantics.proofs.Cycles.{below-intro, below-elim, below-cong, some-intro, some-elim}
 use Rattle.semantics.proofs.Chains.{chain-step}
-use Rattle.rows.proofs.Bits.{bit-and, bit-or, bit-nothing, same-bits, Lowest, lowest}
+use Rattle.rows.proofs.Bits.{bit-and, bit-or, bit-xor, bit-nothing, same-bits, Lowest, lowest}
 use Rattle.rows.proofs.Masks.{cut-bit}
 use Rattle.rows.proofs.Rows.{word-small, word-bit, is-word, set-intro, set-elim, is-row}
 
@@ -50,7 +50,7 @@ joined-intro set words e l j =
     joined-bit set words e l
     ∙ below-intro 64 (λ i. bit set i && bit (words i) e) (j .from) (j .below) (both (j .chosen) (j .has))
 
-joined-none : (words : ℕ → ℕ) → joined 0 words ≡ 0
+pub joined-none : (words : ℕ → ℕ) → joined 0 words ≡ 0
 joined-none words =
     same-bits 64 (joined 0 words) 0 (joined-small 0 words) (omega arith)
     (λ e l. is-false (bit (joined 0 words) e) (λ t.
@@ -112,6 +112,52 @@ join-turn whole out left words ho hz hl hw inv =
 pub join-end : (set out left : ℕ) (words : ℕ → ℕ) → left ≡ 0 → joined set words ≡ bitOr out (joined left words) → out ≡ joined set words
 join-end set out left words none inv =
     sym (inv ∙ ap (λ (x : ℕ). bitOr out (joined x words)) none ∙ ap (bitOr out) (joined-none words) ∙ or-zero-r out)
+
+-- a set that has all of an earlier one: what was joined for that one, and what the set has besides
+pub join-new : (set before : ℕ) (words : ℕ → ℕ) → bitAnd before set ≡ before
+    → bitOr (joined before words) (joined (bitXor set before) words) ≡ joined set words
+join-new set before words all =
+    same-bits 64 (bitOr (joined before words) (joined new words)) (joined set words)
+    (or-lt 64 (joined before words) (joined new words) (joined-small before words) (joined-small new words))
+    (joined-small set words)
+    (λ e l. bit-or (joined before words) (joined new words) e
+    ∙ same (bit (joined before words) e || bit (joined new words) e) (bit (joined set words) e)
+    (λ s. elim (or-elim (bit (joined before words) e) (bit (joined new words) e) s) [
+      | inl a ↦ (
+          let j = joined-elim before words e l a in
+          joined-intro set words e l (record { from = j .from; below = j .below; chosen = old (j .from) (j .chosen); has = j .has }))
+      | inr a ↦ (
+          let j = joined-elim new words e l a in
+          joined-intro set words e l
+          (record { from = j .from; below = j .below; chosen = either (j .from) (sym (bit-xor set before (j .from)) ∙ j .chosen); has = j .has }))
+    ])
+    (λ s.
+    let j = joined-elim set words e l s in
+    elim (test (bit before (j .from))) [
+      | inl a ↦ or-left (bit (joined before words) e) (bit (joined new words) e)
+          (joined-intro before words e l (record { from = j .from; below = j .below; chosen = a; has = j .has }))
+      | inr a ↦ or-right (bit (joined before words) e) (bit (joined new words) e)
+          (joined-intro new words e l
+          (record {
+            from = j .from;
+            below = j .below;
+            chosen = bit-xor set before (j .from) ∙ ap₂ (λ (x y : Bool). cond x (not y) y) (j .chosen) a;
+            has = j .has;
+          }))
+    ]))
+  where
+    new : ℕ
+    new = bitXor set before
+
+    old : (i : ℕ) → bit before i ≡ true → bit set i ≡ true
+    old i t = and-right (bit before i) (bit set i) (sym (bit-and before set i) ∙ ap (λ (x : ℕ). bit x i) all ∙ t)
+
+    either : (i : ℕ) → cond (bit set i) (not (bit before i)) (bit before i) ≡ true → bit set i ≡ true
+    either i t =
+        elim (test (bit set i)) [
+          | inl s ↦ s
+          | inr s ↦ old i (ap (λ (x : Bool). cond x (not (bit before i)) (bit before i)) (sym s) ∙ t)
+        ]
 
 -- ---- chop
 

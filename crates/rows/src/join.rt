@@ -21,6 +21,20 @@ pub fn join(row: u64, second: &[u64]) -> u64
     out
 }
 
+// The same, where `kept` is joined already, from the ends in `had`: a row that has all of these joins only what starts at its others.
+pub fn join_more(row: u64, had: u64, kept: u64, second: &[u64]) -> u64
+    requires { ⌜ (64 ≤ length (now second)) × (kept ≡ joined had (λ i. getD (now second) i 0)) ⌝ }
+    ensures { λ r. ⌜ r ≡ joined row (λ i. getD (now (second .entry)) i 0) ⌝ }
+{
+    let mut left = row;
+    let mut out: u64 = 0;
+    if had & row == had {
+        left = row ^ had;
+        out = kept;
+    }
+    out | join(left, second)
+}
+
 // Row b of a star, from row b of its formula and the later rows of the star in `stars`.
 pub fn star_row(links: u64, stars: &[u64], b: usize) -> u64
     requires { ⌜ (b < 64) × (64 ≤ length (now stars)) ⌝ }

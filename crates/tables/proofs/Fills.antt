@@ -12,7 +12,7 @@ use lib.Seq.{getD-set-same, getD-set-other}
 use Rattle.semantics.specs.Proposition.{Proposition, Trace, Marks, holdsAt}
 use Rattle.semantics.specs.Formula.{Formula, holds}
 use Rattle.semantics.proofs.Tests.{test}
-use Rattle.rows.specs.Row.{word, row}
+use Rattle.rows.specs.Row.{word, row, joined}
 use Rattle.stored.specs.declared.Node.{Node}
 use Rattle.traces.specs.Columns.{IsColumns, traceOf, marksOf}
 use Rattle.stored.specs.Node.{requirementSorts, sortOf, nodeAt}
@@ -22,7 +22,8 @@ use Rattle.stored.specs.Tree.{earlier, propositionOp, formulaOp, formulaOf, pro
 use Rattle.stored.proofs.Tree.{operands, proposition-law, formula-law}
 use Rattle.tables.specs.Table.{rowAt, Table, Tables}
 use Rattle.tables.specs.Ready.{Given, Ready, Before, Filled, Kept, apart}
-use Rattle.tables.specs.Step.{columnOf, firstColumn, secondColumn, rowOf}
+use Rattle.tables.specs.Step.{columnOf, firstColumn, secondColumn, rowOf, Empty, Cleared}
+use Rattle.tables.proofs.Rows.{joined-ext}
 use Rattle.tables.proofs.Columns.{tells}
 use Rattle.tables.proofs.Nodes.{operands-at, usable}
 use Rattle.tables.proofs.Meaning.{Column, Columns, column-is, Rows, Lines, line-is}
@@ -37,6 +38,30 @@ unfolding rowAt
 row-other words i b v k c l m ne =
     getD-set-other words (64 * i + b) (64 * k + c) v 0
     (λ e. let same : k ≡ i = omega arith in ne same (omega arith))
+
+-- one row more is cleared
+pub cleared-more : (i b : ℕ) (old new : List ℕ) → b < 64 → 64 * i + b < length new → Cleared i b old new → Cleared i (b + 1) old (set new (64 * i + b) 0)
+cleared-more i b old new l h t =
+    record {
+      empty = record {
+        none = λ c m.
+            elim (test (eqb c b)) [
+              | inl s ↦ subst (λ (d : ℕ). rowAt (set new (64 * i + b) 0) i d ≡ 0) (sym (eqb-true c b s)) (row-set new i b 0 h)
+              | inr s ↦ (let other = eqb-false c b s in row-other new i b 0 i c l (omega arith) (λ _ y. other y) ∙ t .empty .none c (omega arith))
+            ];
+      };
+      beside = λ k c m ne. row-other new i b 0 k c l m (λ y _. ne y) ∙ t .beside k c m ne;
+    }
+
+-- the rows before a stored one stay empty
+pub empty-set : (i b v : ℕ) (words : List ℕ) → 0 < b → b ≤ 64 → Empty i b words → Empty i (b - 1) (set words (64 * i + (b - 1)) v)
+empty-set i b v words p l t =
+    record { none = λ c m. row-other words i (b - 1) v i c (omega arith) (omega arith) (λ _ y. absurd (omega arith)) ∙ t .none c (omega arith) }
+
+-- what is joined from the rows of another node stays
+pub joined-other : (words : List ℕ) (i b v k ends : ℕ) → b < 64 → (k ≡ i → ⊥) → joined ends (rowAt words k) ≡ joined ends (rowAt (set words (64 * i + b) v) k)
+joined-other words i b v k ends l ne =
+    joined-ext ends (rowAt words k) (rowAt (set words (64 * i + b) v) k) (λ c m. sym (row-other words i b v k c l m (λ y _. ne y)))
 
 -- node i has its rows from b on, and the words of the other nodes are as they were
 pub record Partly (x : ℕ → Node) (σ : Trace) (μ : Marks) (n i b : ℕ) (old new : List ℕ) : Type 0 where
@@ -89,12 +114,30 @@ module _ {x : ℕ → Node} {σ : Trace} {μ : Marks} {n : ℕ} (few : n ≤ 64)
         beside = λ k c l ne. row-other new i (b - 1) v k c (omega arith) l (λ y _. ne y) ∙ t .beside k c l ne;
       }
 
+  -- a row that stands there already
+  pub partly-there : (i b : ℕ) (old new : List ℕ) → 0 < b → rowAt new i (b - 1) ≡ row n (holds (formulaAt x i) σ μ) (b - 1)
+      → Partly x σ μ n i b old new → Partly x σ μ n i (b - 1) old new
+  partly-there i b old new p e t =
+      record {
+        later = λ c l u.
+            elim (test (eqb c (b - 1))) [
+              | inl s ↦ subst (λ (d : ℕ). rowAt new i d ≡ row n (holds (formulaAt x i) σ μ) d) (sym (eqb-true c (b - 1) s)) e
+              | inr s ↦ (let other = eqb-false c (b - 1) s in t .later c (omega arith) u)
+            ];
+        beside = t .beside;
+      }
+
   pub partly-all : (i b : ℕ) (old new : List ℕ) → b ≡ 0 → sortOf requirementSorts (x i .op) ≡ 2 → Partly x σ μ n i b old new → Filled x σ μ n i old new
   partly-all i b old new z s t =
       record {
         done = record { rows = λ _ c h. t .later c (omega arith) h; column = λ u. absurd (omega arith) };
         others = t .beside;
       }
+
+  -- a fill of node i whose rows were cleared before it
+  pub filled-cleared : (i : ℕ) (old clear new : List ℕ) → Cleared i n old clear → Filled x σ μ n i clear new → Filled x σ μ n i old new
+  filled-cleared i old clear new c f =
+      record { done = f .done; others = λ k b l ne. f .others k b l ne ∙ c .beside k b l ne }
 
   -- a proposition's column
   pub column-put : (i v place : ℕ) (old : List ℕ) → place ≡ 64 * i → 64 * i + 64 ≤ length old → sortOf requirementSorts (x i .op) ≡ 1
@@ -149,21 +192,28 @@ module _ {nodes : List ℕ} {count n : ℕ} {columns words : List ℕ} (g : Give
       Is : Formula → Type 0
       Is f = (c : ℕ) → b < c → c < n → rowAt now i c ≡ row n (holds f σ μ) c
 
-  -- one row more of node i, which was read as y
+  -- row b - 1 of node i, which was read as y, where the later rows are right
+  pub row-right : (y : Node) (first second b v : ℕ) (old now : List ℕ) → y ≡ nodeAt nodes i → sortOf requirementSorts (nodeAt nodes i .op) ≡ 2
+      → 0 < b → b ≤ n → Before (nodeAt nodes) σ μ n old i
+      → first ≡ firstColumn (y .op) y columns old → second ≡ secondColumn (y .op) y columns
+      → v ≡ rowOf (formulaOp (y .op)) y n first second now i (b - 1)
+      → Partly (nodeAt nodes) σ μ n i b old now → v ≡ row n (holds (formulaAt (nodeAt nodes) i) σ μ) (b - 1)
+  row-right y first second b v old now e s p m before u w r t =
+      r
+      ∙ ap (λ (x : Node). rowOf (formulaOp (x .op)) x n first second now i (b - 1)) e
+      ∙ row-law old now first second (b - 1) (omega arith) before (before-kept (g .few-cycles) i old now (t .beside) before) s
+      (u ∙ ap (λ (x : Node). firstColumn (x .op) x columns old) e) (w ∙ ap (λ (x : Node). secondColumn (x .op) x columns) e)
+      (λ c a z. t .later c (omega arith) z)
+
+  -- that row written
   pub partly-row : (y : Node) (first second b v : ℕ) (old now : List ℕ) → y ≡ nodeAt nodes i → sortOf requirementSorts (nodeAt nodes i .op) ≡ 2
       → 0 < b → b ≤ n → length now ≡ length words → Before (nodeAt nodes) σ μ n old i
       → first ≡ firstColumn (y .op) y columns old → second ≡ secondColumn (y .op) y columns
       → v ≡ rowOf (formulaOp (y .op)) y n first second now i (b - 1)
       → Partly (nodeAt nodes) σ μ n i b old now → Partly (nodeAt nodes) σ μ n i (b - 1) old (set now (64 * i + (b - 1)) v)
   partly-row y first second b v old now e s p m l before u w r t =
-      let few = g .few-cycles in
-      partly-more few i b v old now p m (omega (arith, g .words-long))
-      (r
-      ∙ ap (λ (x : Node). rowOf (formulaOp (x .op)) x n first second now i (b - 1)) e
-      ∙ row-law old now first second (b - 1) (omega arith) before (before-kept few i old now (t .beside) before) s
-      (u ∙ ap (λ (x : Node). firstColumn (x .op) x columns old) e) (w ∙ ap (λ (x : Node). secondColumn (x .op) x columns) e)
-      (λ c a z. t .later c (omega arith) z))
-      t
+      partly-more (g .few-cycles) i b v old now p m (omega (arith, g .few-cycles, g .words-long))
+      (row-right y first second b v old now e s p m before u w r t) t
 
 -- other columns, and other words of the same length
 pub given-other : {nodes : List ℕ} {count n : ℕ} {columns old : List ℕ} (columns′ new : List ℕ) → IsColumns n columns′ → length new ≡ length old

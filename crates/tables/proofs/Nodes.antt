@@ -2,7 +2,7 @@
 use Prim.Native.Nat.{ℕ, _/_, _%_, _<_}
 use mathlib.Core.Bool.{true, not, _&&_, _||_}
 use mathlib.Core.List.{List}
-use mathlib.Core.Path.{_≡_, sym, subst}
+use mathlib.Core.Path.{_≡_, sym, ap, subst, _∙_}
 use native.Mathlib.Omega.{arith}
 use borrow.Author.Tests.{ltb-true, eqb-false, eq-eqb, not-true}
 use lib.Dec.{ltb, eqb}
@@ -13,8 +13,8 @@ use Rattle.stored.proofs.Rules.{asked, every-at}
 use Rattle.stored.proofs.Tree.{operands}
 use Rattle.stored.proofs.Reach.{NodesKept}
 use Rattle.tables.specs.Ready.{Given}
-use Rattle.tables.specs.Step.{Usable}
-use Rattle.tables.proofs.Uses.{Ops, proposition-ops, formula-ops}
+use Rattle.tables.specs.Step.{Usable, isPair}
+use Rattle.tables.proofs.Uses.{Ops, proposition-ops, formula-ops, joins-formula, pair-of, pair-formula, pair-right}
 
 record FieldKept (s m what v : ℕ) : Type 0 where
   pub signal : what ≡ 1 → v < s
@@ -58,6 +58,14 @@ node-kept s m x h =
       a-field = field-kept s m (aUse (x .op)) (x .a) (and-left (fieldRight s m (aUse (x .op)) (x .a)) _ r₂);
     }
 
+-- a chop after i nodes: its operands are among them
+pub record Chop (x : ℕ → Node) (i : ℕ) (r : Node) : Type 0 where
+  pub op : r .op ≡ 20
+  pub pair : isPair (r .op) ≡ true
+  pub formula : sortOf requirementSorts (x i .op) ≡ 2
+  pub first : r .a < i
+  pub second : r .b < i
+
 module _ {nodes : List ℕ} {count n : ℕ} {columns words : List ℕ} (g : Given nodes count n columns words) where
   pub nodes-kept : NodesKept (g .signals) (g .names) count (nodeAt nodes)
   unfolding nodeRight
@@ -100,3 +108,17 @@ module _ {nodes : List ℕ} {count n : ℕ} {columns words : List ℕ} (g : Give
   pub formula-read : (i : ℕ) (r : Node) → i < count → r ≡ nodeAt nodes i → sortOf requirementSorts (nodeAt nodes i .op) ≡ 2 → Usable r i × Ops 16 30 (r .op)
   formula-read i r h e s =
       subst (λ (y : Node). Usable y i × Ops 16 30 (y .op)) (sym e) (usable i h, formula-ops (nodeAt nodes i .op) s)
+
+  -- a chop that was read
+  pub chop-read : (i : ℕ) (r : Node) → i < count → r ≡ nodeAt nodes i → nodeAt nodes i .op ≡ 20 → Chop (nodeAt nodes) i r
+  chop-read i r h e o =
+      let at : r .op ≡ 20 = ap (λ (y : Node). y .op) e ∙ o in
+      let u = subst (λ (y : Node). Usable y i) (sym e) (usable i h) in
+      let pair = pair-of (r .op) (omega arith) (omega arith) in
+      record {
+        op = at;
+        pair = pair;
+        formula = pair-formula _ (pair-of _ (omega arith) (omega arith));
+        first = u .a-formula (joins-formula (r .op) (omega arith) (omega arith));
+        second = u .b-formula (pair-right (r .op) pair);
+      }

@@ -5,13 +5,13 @@ use mathlib.Core.List.{List}
 use mathlib.Core.Logic.{inl, inr}
 use mathlib.Core.Path.{_≡_, refl, sym, ap, subst, _∙_}
 use native.Mathlib.Omega.{arith}
-use borrow.Author.Tests.{ltb-true, ltb-false, leb-true, eqb-true, eqb-false, eq-eqb, le-leb}
+use borrow.Author.Tests.{ltb-true, ltb-false, leb-true, eqb-true, eqb-false, eq-eqb, le-leb, lt-ltb}
 use lib.Dec.{leb, ltb, eqb}
 use lib.ListN.{List·getD-eq-default}
 use Rattle.stored.specs.declared.Node.{Node}
 use Rattle.stored.specs.Bytes.{everyBelow}
 use Rattle.stored.specs.Node.{requirementSorts, sortOf, aUse, bUse, qUse}
-use Rattle.semantics.proofs.Tests.{test, and-left, and-right}
+use Rattle.semantics.proofs.Tests.{test, both, and-left, and-right}
 use Rattle.tables.specs.Step.{firstColumn, secondColumn, isPair}
 use Rattle.stored.proofs.Rules.{asked, every-at, every-number}
 
@@ -70,6 +70,10 @@ formula-left k known other =
 pub pair-ops : (k : ℕ) → isPair k ≡ true → Ops 20 23 k
 unfolding isPair
 pair-ops k e = record { least = leb-true 20 k (and-left (leb 20 k) (ltb k 23) e); most = ltb-true k 23 (and-right (leb 20 k) (ltb k 23) e) }
+
+pub pair-of : (k : ℕ) → 20 ≤ k → k < 23 → isPair k ≡ true
+unfolding isPair
+pair-of k l h = both (le-leb 20 k l) (lt-ltb k 23 h)
 
 pub no-pair : (k : ℕ) → isPair k ≡ false → 20 ≤ k → 23 ≤ k
 unfolding isPair

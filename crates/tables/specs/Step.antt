@@ -77,3 +77,12 @@ rowOf gapOp x n first second words own b =
 rowOf negationOp x n first second words own b = 0
 rowOf forSomeOp x n first second words own b = 0
 rowOf noFormula x n first second words own b = 0
+
+-- the rows of node i below n have no end
+pub record Empty (i n : ℕ) (words : List ℕ) : Type 0 where
+  pub none : (b : ℕ) → b < n → rowAt words i b ≡ 0
+
+-- they have none now, and the words of the other nodes are as they were
+pub record Cleared (i n : ℕ) (old new : List ℕ) : Type 0 where
+  pub empty : Empty i n new
+  pub beside : (k b : ℕ) → b < 64 → (k ≡ i → ⊥) → rowAt new k b ≡ rowAt old k b

@@ -6,17 +6,21 @@ ghost use lib.ListN.{length};
 ghost use Rattle.traces.specs.Columns.{traceOf, marksOf};
 ghost use Rattle.stored.specs.Node.{nodeAt, requirementSorts, sortOf, proposition, formula};
 ghost use Rattle.tables.specs.Table.{Inside, Tables};
-ghost use Rattle.tables.specs.Step.{isPair};
+ghost use Rattle.tables.specs.Step.{isPair, Empty};
 ghost use Rattle.tables.specs.Ready.{Given, Ready, Before, Filled, Kept, withName, changed, withNames, changedNames};
 use crate::column;
+use crate::line::and_or_row;
 use crate::line::drawing_row;
 use crate::line::is_pair;
-use crate::line::pair_row;
 use crate::line::plain_row;
+use crate::words::clear_rows;
+use crate::words::joined_at;
+use crate::words::row_at;
 use rows::mask::only;
 use stored::layout::MOST_NODES;
 use stored::masks::name_mask;
 use stored::nodes::node_at;
+use stored::ops::CHOP;
 use traces::trace::FIRST_NAME;
 
 // The column of proposition node i, from those of earlier nodes.
@@ -31,8 +35,61 @@ fn put_column(nodes: &[u8], count: usize, n: usize, columns: &[u64], i: usize, w
     words[64 * i] = set;
 }
 
-// The rows of a chop, an and or an or at node i, the last first, from those of earlier nodes. Most nodes are such, and drawings are
-// what moves with a name: each family has a loop that tells few ops apart. Rows past the last cycle are left as they are.
+// The rows of a chop at node i, the last first, from those of earlier nodes, where no row has an end yet. A row of the first operand
+// often has all ends of the one after it, as in a stretch: what those joined is kept, and only what starts at its other ends is
+// joined to it. Where it has no end, nothing is written.
+fn put_joined(nodes: &[u8], count: usize, n: usize, columns: &[u64], i: usize, words: &mut [u64])
+    requires { ⌜ Given (now nodes) count n (now columns) (now words) ⌝ }
+    requires { ⌜ Before (nodeAt (now nodes)) (traceOf n (now columns)) (marksOf (now columns)) n (now words) i ⌝ }
+    requires { ⌜ (i < count) × (nodeAt (now nodes) i .op ≡ 20) × Empty i n (now words) ⌝ }
+    ensures { λ r. ⌜ Filled (nodeAt (now (nodes .entry))) (traceOf n (now (columns .entry))) (marksOf (now (columns .entry))) n i (now (words .entry)) (now (words .exit)) ⌝ }
+{
+    let x = node_at(nodes, i);
+    let first = x.a;
+    let second = x.b;
+    let mut had: u64 = 0;
+    let mut kept: u64 = 0;
+    let mut b = n;
+    while 0 < b {
+        b -= 1;
+        let ends = row_at(words, first, b);
+        if ends != 0 {
+            kept = joined_at(ends, had, kept, words, second);
+            had = ends;
+            words[64 * i + b] = kept;
+        }
+    }
+}
+
+// The rows of a chop at node i, from those of earlier nodes. Rows past the last cycle are left as they are.
+fn put_chop(nodes: &[u8], count: usize, n: usize, columns: &[u64], i: usize, words: &mut [u64])
+    requires { ⌜ Given (now nodes) count n (now columns) (now words) ⌝ }
+    requires { ⌜ Before (nodeAt (now nodes)) (traceOf n (now columns)) (marksOf (now columns)) n (now words) i ⌝ }
+    requires { ⌜ (i < count) × (nodeAt (now nodes) i .op ≡ 20) ⌝ }
+    ensures { λ r. ⌜ Filled (nodeAt (now (nodes .entry))) (traceOf n (now (columns .entry))) (marksOf (now (columns .entry))) n i (now (words .entry)) (now (words .exit)) ⌝ }
+{
+    clear_rows(words, i, n);
+    put_joined(nodes, count, n, columns, i, words);
+}
+
+// The same for an and or an or.
+fn put_and_or(nodes: &[u8], count: usize, n: usize, columns: &[u64], i: usize, words: &mut [u64])
+    requires { ⌜ Given (now nodes) count n (now columns) (now words) ⌝ }
+    requires { ⌜ Before (nodeAt (now nodes)) (traceOf n (now columns)) (marksOf (now columns)) n (now words) i ⌝ }
+    requires { ⌜ (i < count) × (21 ≤ nodeAt (now nodes) i .op) × (nodeAt (now nodes) i .op < 23) ⌝ }
+    ensures { λ r. ⌜ Filled (nodeAt (now (nodes .entry))) (traceOf n (now (columns .entry))) (marksOf (now (columns .entry))) n i (now (words .entry)) (now (words .exit)) ⌝ }
+{
+    let x = node_at(nodes, i);
+    let mut b = n;
+    while 0 < b {
+        b -= 1;
+        let row = and_or_row(x, n, words, i, b);
+        words[64 * i + b] = row;
+    }
+}
+
+// The same for a chop, an and or an or. Most nodes are such, and drawings are what moves with a name: each family has loops that tell
+// few ops apart.
 fn put_pair(nodes: &[u8], count: usize, n: usize, columns: &[u64], i: usize, words: &mut [u64])
     requires { ⌜ Given (now nodes) count n (now columns) (now words) ⌝ }
     requires { ⌜ Before (nodeAt (now nodes)) (traceOf n (now columns)) (marksOf (now columns)) n (now words) i ⌝ }
@@ -40,11 +97,11 @@ fn put_pair(nodes: &[u8], count: usize, n: usize, columns: &[u64], i: usize, wor
     ensures { λ r. ⌜ Filled (nodeAt (now (nodes .entry))) (traceOf n (now (columns .entry))) (marksOf (now (columns .entry))) n i (now (words .entry)) (now (words .exit)) ⌝ }
 {
     let x = node_at(nodes, i);
-    let mut b = n;
-    while 0 < b {
-        b -= 1;
-        let row = pair_row(x, n, words, i, b);
-        words[64 * i + b] = row;
+    let op = x.op;
+    if op == CHOP {
+        put_chop(nodes, count, n, columns, i, words);
+    } else {
+        put_and_or(nodes, count, n, columns, i, words);
     }
 }
 

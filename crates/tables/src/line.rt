@@ -1,12 +1,11 @@
 // Row b of a formula node, from the columns that it is over and its operands' rows in the words.
 ghost use mathlib.Core.Path.{_≡_};
-ghost use mathlib.Core.Bool.{true, false};
+ghost use mathlib.Core.Bool.{false};
 ghost use Prim.Native.Nat.{_+_, _*_, _≤_, _<_};
 ghost use lib.ListN.{length};
 ghost use Rattle.rows.specs.Symbols as symbols;
 ghost use Rattle.stored.specs.Tree.{comparisonOf, symbolOf, formulaOp};
 ghost use Rattle.tables.specs.Step.{Usable, isPair, rowOf};
-use crate::words::joined_at;
 use crate::words::row_at;
 use crate::words::starred_at;
 use rows::count;
@@ -15,6 +14,7 @@ use rows::gap::gap;
 use rows::shape;
 use rows::shape::Symbol;
 use stored::Node;
+use stored::ops::AND;
 
 // A comparison's number: 0 <, 1 ≤, 2 =, 3 ≥, 4 >.
 fn comparison(q: usize) -> Comparison
@@ -107,19 +107,19 @@ pub fn is_pair(op: usize) -> bool
     (20 <= op) & (op < 23)
 }
 
-// Row b of a chop, an and or an or.
-pub fn pair_row(x: Node, n: usize, words: &[u64], own: usize, b: usize) -> u64
+// Row b of an and or an or.
+pub fn and_or_row(x: Node, n: usize, words: &[u64], own: usize, b: usize) -> u64
     requires { ⌜ Usable x own ⌝ }
-    requires { ⌜ (isPair (x .op) ≡ true) × (b < n) × (n ≤ 64) × (64 * own + 64 ≤ length (now words)) ⌝ }
+    requires { ⌜ (21 ≤ x .op) × (x .op < 23) × (b < n) × (n ≤ 64) × (64 * own + 64 ≤ length (now words)) ⌝ }
     ensures { λ r. ⌜ r ≡ rowOf (formulaOp (x .op)) x n 0 0 (now (words .entry)) own b ⌝ }
 {
     let op = x.op;
-    let other = x.b;
     let left = row_at(words, x.a, b);
-    match op {
-        20 => joined_at(left, words, other),
-        21 => left & row_at(words, other, b),
-        _ => left | row_at(words, other, b),
+    let right = row_at(words, x.b, b);
+    if op == AND {
+        left & right
+    } else {
+        left | right
     }
 }
 

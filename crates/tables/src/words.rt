@@ -4,7 +4,8 @@ ghost use Prim.Native.Nat.{_+_, _*_, _≤_, _<_};
 ghost use lib.ListN.{length, replicate};
 ghost use Rattle.rows.specs.Row.{joined, starred};
 ghost use Rattle.tables.specs.Table.{rowAt};
-use rows::join::join;
+ghost use Rattle.tables.specs.Step.{Cleared};
+use rows::join::join_more;
 use rows::join::star_row;
 
 // Row b of node i.
@@ -15,14 +16,14 @@ pub fn row_at(words: &[u64], i: usize, b: usize) -> u64
     words[64 * i + b]
 }
 
-// The rows of node i that start where an interval of `row` ends, joined straight from the words.
-pub fn joined_at(row: u64, words: &[u64], i: usize) -> u64
-    requires { ⌜ 64 * i + 64 ≤ length (now words) ⌝ }
+// The rows of node i that start where an interval of `row` ends, joined straight from the words; `kept` is joined from the ends in `had`.
+pub fn joined_at(row: u64, had: u64, kept: u64, words: &[u64], i: usize) -> u64
+    requires { ⌜ (64 * i + 64 ≤ length (now words)) × (kept ≡ joined had (rowAt (now words) i)) ⌝ }
     ensures { λ r. ⌜ r ≡ joined row (rowAt (now (words .entry)) i) ⌝ }
 {
     let from = 64 * i;
     let to = from + 64;
-    join(row, &words[from..to])
+    join_more(row, had, kept, &words[from..to])
 }
 
 // Row b of the star at node i, from row b of its formula and its own later rows.
@@ -33,6 +34,18 @@ pub fn starred_at(links: u64, words: &[u64], i: usize, b: usize) -> u64
     let from = 64 * i;
     let to = from + 64;
     star_row(links, &words[from..to], b)
+}
+
+// The rows of node i below n, without any end from now on.
+pub fn clear_rows(words: &mut [u64], i: usize, n: usize)
+    requires { ⌜ (n ≤ 64) × (64 * i + 64 ≤ length (now words)) ⌝ }
+    ensures { λ r. ⌜ Cleared i n (now (words .entry)) (now (words .exit)) ⌝ }
+{
+    let mut b = 0;
+    while b < n {
+        words[64 * i + b] = 0;
+        b += 1;
+    }
 }
 
 // Every word zero.

@@ -150,14 +150,26 @@ impl Checker {
             }
             19 => unit(rows, before[a][0], cycles),
             20 => {
-                for t in 0..cycles {
-                    let mut left = before[a][t];
-                    let mut row = 0;
+                // What the ends of the last row that has any joined is kept for one that has them all.
+                let (mut had, mut kept) = (0, 0);
+                for t in (0..cycles).rev() {
+                    let ends = before[a][t];
+                    if ends == 0 {
+                        rows[t] = 0;
+                        continue;
+                    }
+                    let mut left = ends;
+                    if had & ends == had {
+                        left ^= had;
+                    } else {
+                        kept = 0;
+                    }
                     while left != 0 {
-                        row |= before[b][left.trailing_zeros() as usize];
+                        kept |= before[b][left.trailing_zeros() as usize];
                         left &= left - 1;
                     }
-                    rows[t] = row;
+                    had = ends;
+                    rows[t] = kept;
                 }
             }
             21 => {

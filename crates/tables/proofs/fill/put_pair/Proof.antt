@@ -1,100 +1,47 @@
 -- `tables::fill::put_pair` meets its contract.
-use mathlib.Core.Path.{_≡_, refl, _∙_, ap}
+use mathlib.Core.Path.{sym, _∙_, ap}
 use native.Mathlib.Omega.{arith}
-use Prim.Native.Nat.{_≤_}
-use lib.ListN.{length, length-set}
 use Rattle.stored.specs.declared.Node.{Node}
-use Rattle.traces.specs.Columns.{traceOf, marksOf}
-use Rattle.stored.specs.Node.{nodeAt}
-use Rattle.tables.specs.Step.{isPair}
-use Rattle.tables.proofs.Nodes.{formula-read}
-use Rattle.tables.proofs.Uses.{pair-formula, pair-first, pair-second}
-use Rattle.tables.proofs.Fills.{Partly, partly-none, partly-row, partly-all}
+use Rattle.tables.proofs.Uses.{pair-ops}
 use Rattle.tables.proofs.fill.put_pair.Statement.{statement}
 use Rattle.tables.proofs.fill.put_pair.Tie as tie
 
-abbrev Inv-loop : tie.InvT-loop
-Inv-loop nodes count n columns i words₀ x b₀ words b = (b ≤ n) × (length words ≡ length words₀) × Partly (nodeAt nodes) (traceOf n columns) (marksOf columns) n i b words₀ words
-
-abbrev μ-loop : tie.MeasureT-loop
-μ-loop nodes count n columns i words₀ x b₀ words b = b
-
-node-at-requires : tie.Need-node-at-requires Inv-loop μ-loop
+node-at-requires : tie.Need-node-at-requires
 node-at-requires c κs = omega (arith, c .before .before .before .pre .0)
 
-loop-holds : tie.Need-loop-holds Inv-loop μ-loop
-loop-holds c =
-    let a = c .before .before .before .before .args in
-    let g = c .before .before .before .before .pre .0 in
-    (omega arith, refl, partly-none (g .few-cycles) (a .i) (a .words .now))
+put-chop-requires : tie.Need-put-chop-requires
+put-chop-requires c κs =
+    let q = c .before .before .before .before .before .before .pre in
+    let op = ap (λ (x : Node). x .op) (sym (c .before .before .node-at .ensures)) in
+    (q .0, (q .1 .0, (q .1 .1 .0, op ∙ c .before .if1 .taken)))
 
-sub-b : tie.Need-sub-b Inv-loop μ-loop
-sub-b c = omega arith
+put-and-or-requires : tie.Need-put-and-or-requires
+put-and-or-requires c κs =
+    let q = c .before .before .before .before .before .before .pre in
+    let op = ap (λ (x : Node). x .op) (c .before .before .node-at .ensures) in
+    let o = pair-ops _ (q .1 .1 .1) in
+    (q .0, (q .1 .0, (q .1 .1 .0, omega (arith, o .least, c .before .if1 .left), o .most)))
 
-pair-row-requires : tie.Need-pair-row-requires Inv-loop μ-loop
-pair-row-requires c κs =
-    let a = c .before .before .before .before .before .before .before .args in
-    let q = c .before .before .before .before .before .before .before .pre in
-    let x = c .before .before .before .node-at in
-    let t = formula-read (q .0) (a .i) (x .result) (omega arith) (x .ensures) (pair-formula _ (q .1 .1 .1)) in
-    (t .0, (ap (λ (x : Node). isPair (x .op)) (x .ensures) ∙ q .1 .1 .1, (omega (arith, c .before .before .loop .inv .0)), (omega (arith, q .0)), (omega (arith, q .0, c .before .before .loop .inv .1))))
+same-length : tie.Need-same-length
+same-length c = c .before .before .put-chop .kept .1 .1 .1 .1 .1 .0
 
-mul-words : tie.Need-mul-words Inv-loop μ-loop
-mul-words c = omega (arith, c .before .before .before .before .before .before .before .before .pre .0)
+returns : tie.Need-returns
+returns c = c .before .before .put-chop .ensures
 
-add-words : tie.Need-add-words Inv-loop μ-loop
-add-words c = omega (arith, c .before .before .before .before .before .before .before .before .pre .0)
+same-length-2 : tie.Need-same-length-2
+same-length-2 c = c .before .before .put-and-or .kept .1 .1 .1 .1 .1 .0
 
-mul-words-2 : tie.Need-mul-words-2 Inv-loop μ-loop
-mul-words-2 c = omega (arith, c .before .before .before .before .before .before .before .before .pre .0, c .before .before .before .loop .inv .1)
-
-slice-write-words : tie.Need-slice-write-words Inv-loop μ-loop
-slice-write-words c = omega (arith, c .before .before .before .before .before .before .before .before .pre .0, c .before .before .before .loop .inv .1)
-
-loop-less : tie.Need-loop-less Inv-loop μ-loop
-loop-less c = omega arith
-
-loop-again : tie.Need-loop-again Inv-loop μ-loop
-loop-again c =
-    let a = c .before .before .before .before .before .before .before .before .args in
-    let q = c .before .before .before .before .before .before .before .before .pre in
-    let at = c .before .before .before .loop in
-    let x = c .before .before .before .before .node-at in
-    let pair = ap (λ (x : Node). isPair (x .op)) (x .ensures) ∙ q .1 .1 .1 in (
-      omega arith,
-      length-set (at .words) _ _ ∙ at .inv .1,
-      partly-row (q .0) (a .i) (q .1 .1 .0) (x .result) 0 0 (at .b) _ (a .words .now) (at .words) (x .ensures) (pair-formula _ (q .1 .1 .1))
-          (c .before .before .loop-test .taken) (at .inv .0) (at .inv .1) (q .1 .0)
-          (pair-first _ (x .result) (a .columns .now) (a .words .now) pair) (pair-second _ (x .result) (a .columns .now) pair)
-          (c .pair-row .ensures) (at .inv .2),
-    )
-
-same-length : tie.Need-same-length Inv-loop μ-loop
-same-length c = c .before .loop .inv .1
-
-returns : tie.Need-returns Inv-loop μ-loop
-returns c =
-    let a = c .before .before .before .before .before .before .args in
-    let g = c .before .before .before .before .before .before .pre .0 in
-    let at = c .before .loop in
-    let none : at .b ≡ 0 = omega arith in
-    partly-all (g .few-cycles) (a .i) (at .b) (a .words .now) (at .words) none (pair-formula _ (c .before .before .before .before .before .before .pre .1 .1 .1)) (at .inv .2)
+returns-2 : tie.Need-returns-2
+returns-2 c = c .before .before .put-and-or .ensures
 
 pub put-pair-spec : {M : Type 1} → statement M
 put-pair-spec =
     tie.close
     (tie.spec
-    Inv-loop
-    μ-loop
     node-at-requires
-    loop-holds
-    sub-b
-    pair-row-requires
-    mul-words
-    add-words
-    mul-words-2
-    slice-write-words
-    loop-less
-    loop-again
+    put-chop-requires
+    put-and-or-requires
     same-length
-    returns)
+    returns
+    same-length-2
+    returns-2)

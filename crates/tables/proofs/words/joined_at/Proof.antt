@@ -1,5 +1,6 @@
 -- `tables::words::joined_at` meets its contract.
-use mathlib.Core.Path.{refl, _∙_}
+use mathlib.Core.Path.{refl, sym, _∙_}
+use native.Mathlib.Omega.{arith}
 use borrow.Author.Needs.{needs}
 use Rattle.tables.specs.Table.{rowAt}
 use Rattle.tables.proofs.Rows.{joined-ext, part-row}
@@ -12,25 +13,28 @@ mul-from c = search needs
 add-to : tie.Need-add-to
 add-to c = search needs
 
-mul-join : tie.Need-mul-join
-mul-join c = search needs
+mul-join-more : tie.Need-mul-join-more
+mul-join-more c = search needs
 
-sub-join : tie.Need-sub-join
-sub-join c = search needs
+sub-join-more : tie.Need-sub-join-more
+sub-join-more c = search needs
 
-part-join-start : tie.Need-part-join-start
-part-join-start c = search needs
+part-join-more-start : tie.Need-part-join-more-start
+part-join-more-start c = search needs
 
-part-join-end : tie.Need-part-join-end
-part-join-end c = search needs
+part-join-more-end : tie.Need-part-join-more-end
+part-join-more-end c = search needs
 
-join-requires : tie.Need-join-requires
-join-requires c κs = search needs
+join-more-requires : tie.Need-join-more-requires
+join-more-requires c κs =
+    let a = c .before .before .args in
+    let p = c .before .before .pre in
+    (omega (arith, p .0), p .1 ∙ sym (joined-ext (a .had) _ (rowAt (a .words .now) (a .i)) (part-row (a .words .now) (a .i) _ _ refl refl)))
 
 returns : tie.Need-returns
 returns c =
     let a = c .before .before .before .args in
-    c .join .ensures ∙ joined-ext (a .row) _ (rowAt (a .words .now) (a .i)) (part-row (a .words .now) (a .i) _ _ refl refl)
+    c .join-more .ensures ∙ joined-ext (a .row) _ (rowAt (a .words .now) (a .i)) (part-row (a .words .now) (a .i) _ _ refl refl)
 
 pub joined-at-spec : {M : Type 1} → statement M
 joined-at-spec =
@@ -38,9 +42,9 @@ joined-at-spec =
     (tie.spec
     mul-from
     add-to
-    mul-join
-    sub-join
-    part-join-start
-    part-join-end
-    join-requires
+    mul-join-more
+    sub-join-more
+    part-join-more-start
+    part-join-more-end
+    join-more-requires
     returns)
