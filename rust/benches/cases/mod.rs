@@ -107,9 +107,9 @@ pub fn chops() -> Sheet {
     sheet
 }
 
-/// 62 nodes, most of them chops in a row, three names in one anti: nearly every chop has the name that is
-/// moved most. `any` is what the marks stand between, `join` puts one more of it to the row, and `last`
-/// compares the last interval's length with 0.
+/// 62 nodes, most of them chops or stars in a row, three names in one anti: nearly all of them reach the
+/// name that is moved most. `any` is what the marks stand between, `join` puts one more of it to the
+/// row, and `last` compares the last interval's length with 0.
 fn marks_in_a_row(
     any: impl Fn(&mut Sheet) -> Node,
     join: impl Fn(&mut Sheet, Node, Node) -> Node,
@@ -130,21 +130,28 @@ fn marks_in_a_row(
     sheet
 }
 
+/// A stretch of what is always true: every interval.
+fn always(s: &mut Sheet) -> Node {
+    let truth = s.truth();
+    s.stretch(truth)
+}
+
 /// Rows with every end. It is broken at [0,0] by the first placement of all; its twin ends in a length
 /// that no interval has, so every placement is tried and it holds.
 fn stretches_in_a_row(last: Compare) -> Sheet {
-    let always = |s: &mut Sheet| {
-        let truth = s.truth();
-        s.stretch(truth)
-    };
     marks_in_a_row(always, |s, row, moved| s.chop(row, moved), last)
 }
 
-/// The dearest sheet that was found: intervals of at most half the cycles, joined from the right. Few
-/// rows of a chop's first operand have all ends of the one after, so what was joined hardly serves again.
+/// Intervals of at most half the cycles, joined from the right. Few rows of a chop's first operand have
+/// all ends of the one after, so what was joined hardly serves again.
 fn windows_in_a_row(cycles: usize) -> Sheet {
     let within = |s: &mut Sheet| s.slen(Compare::AtMost, cycles as u16 / 2);
     marks_in_a_row(within, |s, row, moved| s.chop(moved, row), Compare::Less)
+}
+
+/// The dearest sheet that was found: a star of a star and so on. A star joins all its links anew.
+fn stars_in_a_row() -> Sheet {
+    marks_in_a_row(always, |s, row, _| s.star(row), Compare::Less)
 }
 
 /// A trace on which the sheet holds, if one turns up, so that every placement is looked at.
@@ -203,6 +210,7 @@ pub fn checks() -> Vec<Case> {
     cases.extend(anti("broken at once", |_| stretches_in_a_row(Compare::AtLeast)));
     cases.extend(anti("that holds", |_| stretches_in_a_row(Compare::Less)));
     cases.extend(anti("of windows", windows_in_a_row));
+    cases.extend(anti("of stars", |_| stars_in_a_row()));
     cases
 }
 
