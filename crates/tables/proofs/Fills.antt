@@ -97,24 +97,7 @@ module _ {x : ℕ → Node} {σ : Trace} {μ : Marks} {n : ℕ} (few : n ≤ 64)
   pub partly-none : (i : ℕ) (words : List ℕ) → Partly x σ μ n i n words words
   partly-none i words = record { later = λ c l h. absurd (omega arith); beside = λ k c l ne. refl }
 
-  pub partly-more : (i b v : ℕ) (old new : List ℕ) → 0 < b → b ≤ n → 64 * i + (b - 1) < length new
-      → v ≡ row n (holds (formulaAt x i) σ μ) (b - 1) → Partly x σ μ n i b old new → Partly x σ μ n i (b - 1) old (set new (64 * i + (b - 1)) v)
-  partly-more i b v old new p m h e t =
-      record {
-        later = λ c l u.
-            elim (test (eqb c (b - 1))) [
-              | inl s ↦ (
-                  let same = eqb-true c (b - 1) s in
-                  subst (λ (d : ℕ). rowAt (set new (64 * i + (b - 1)) v) i d ≡ row n (holds (formulaAt x i) σ μ) d) (sym same)
-                  (row-set new i (b - 1) v h ∙ e))
-              | inr s ↦ (
-                  let other = eqb-false c (b - 1) s in
-                  row-other new i (b - 1) v i c (omega arith) (omega arith) (λ _ y. other y) ∙ t .later c (omega arith) u)
-            ];
-        beside = λ k c l ne. row-other new i (b - 1) v k c (omega arith) l (λ y _. ne y) ∙ t .beside k c l ne;
-      }
-
-  -- a row that stands there already
+  -- row b - 1 is right already
   pub partly-there : (i b : ℕ) (old new : List ℕ) → 0 < b → rowAt new i (b - 1) ≡ row n (holds (formulaAt x i) σ μ) (b - 1)
       → Partly x σ μ n i b old new → Partly x σ μ n i (b - 1) old new
   partly-there i b old new p e t =
@@ -126,6 +109,16 @@ module _ {x : ℕ → Node} {σ : Trace} {μ : Marks} {n : ℕ} (few : n ≤ 64)
             ];
         beside = t .beside;
       }
+
+  -- it is written
+  pub partly-more : (i b v : ℕ) (old new : List ℕ) → 0 < b → b ≤ n → 64 * i + (b - 1) < length new
+      → v ≡ row n (holds (formulaAt x i) σ μ) (b - 1) → Partly x σ μ n i b old new → Partly x σ μ n i (b - 1) old (set new (64 * i + (b - 1)) v)
+  partly-more i b v old new p m h e t =
+      partly-there i b old (set new (64 * i + (b - 1)) v) p (row-set new i (b - 1) v h ∙ e)
+      (record {
+        later = λ c l u. row-other new i (b - 1) v i c (omega arith) (omega arith) (λ _ y. absurd (omega arith)) ∙ t .later c l u;
+        beside = λ k c l ne. row-other new i (b - 1) v k c (omega arith) l (λ y _. ne y) ∙ t .beside k c l ne;
+      })
 
   pub partly-all : (i b : ℕ) (old new : List ℕ) → b ≡ 0 → sortOf requirementSorts (x i .op) ≡ 2 → Partly x σ μ n i b old new → Filled x σ μ n i old new
   partly-all i b old new z s t =
