@@ -1,5 +1,5 @@
-//! The library on document 01's examples, program input and traps, and on the specifications of
-//! document 004.
+//! The library on document 01's examples, program input and traps, on names that stay (request 4),
+//! and on the specifications of document 004.
 
 mod build;
 mod cases;
@@ -7,7 +7,7 @@ mod compare;
 mod generate;
 mod reference;
 
-use cases::{examples, paper, Case};
+use cases::{examples, names, paper, Case};
 use compare::Tally;
 use generate::Random;
 use reference::stored::is_formula;
@@ -66,6 +66,11 @@ fn traps() {
 #[test]
 fn corners() {
     run("corners", examples::corners());
+}
+
+#[test]
+fn names_that_stay() {
+    run("names that stay", names::cases().into_iter().map(|stays| stays.case).collect());
 }
 
 #[test]

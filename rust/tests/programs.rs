@@ -7,7 +7,7 @@ mod generate;
 mod reference;
 
 use build::{hex, Sheet};
-use cases::{examples, paper, Case};
+use cases::{examples, names, paper, Case};
 use compare::{Tally, TextTally, Translated};
 use generate::text::{typed, Flaw, TextShape};
 use generate::{damaged, Random, Shape};
@@ -34,6 +34,7 @@ fn cases() -> Vec<Case> {
     let mut cases = vec![examples::program()];
     cases.extend(examples::traps());
     cases.extend(examples::corners());
+    cases.extend(names::cases().into_iter().map(|stays| stays.case));
     cases.extend(paper::cases());
     cases
 }

@@ -9,6 +9,7 @@ mod reference;
 use build::{from_hex, Part, Role, Sheet};
 use compare::Tally;
 use generate::{damaged, Random, Shape};
+use reference::clauses::{verdict, verdict_by, Rule};
 use reference::stored::{self, is_formula};
 
 type Draw = fn(&mut Random, Shape) -> Sheet;
@@ -91,6 +92,56 @@ fn marked_and_short() {
         one(&mut random, &mut tally, &sheet, cycles);
     }
     tally.demand("marked and short", [2500, 0, 1500, 0, 2500, 1500]);
+}
+
+/// Parts that share names, and how often the rule of request 4 decides: the verdict would have been
+/// another one before it.
+#[test]
+fn shared_and_short() {
+    let mut random = Random::new(14);
+    let mut tally = Tally::default();
+    let mut decided = 0;
+    for _ in 0..12_000 {
+        let names = random.between(1, 3);
+        let shape =
+            Shape { signals: random.between(1, 2), names, nodes: 0, clauses: 1, numbers: 4 };
+        let sheet = generate::shared(&mut random, shape);
+        let cycles = random.between(3, [0, 6, 5, 4][names]);
+        one(&mut random, &mut tally, &sheet, cycles);
+        let source = stored::sheet(&sheet.bytes()).unwrap();
+        let trace = generate::trace(&mut random, shape.signals, cycles).cycles;
+        decided += (verdict(&source, &trace) != verdict_by(Rule::Inside, &source, &trace)) as usize;
+    }
+    tally.demand("shared and short", [3000, 0, 3000, 0, 3000, 3000]);
+    compare::report(format!("shared and short: request 4 decides {decided} verdicts"));
+    assert!(decided >= 800, "{decided} verdicts");
+}
+
+/// The same on every trace of up to four cycles of one signal, with the formula over all columns.
+#[test]
+fn shared_on_every_trace() {
+    let mut random = Random::new(15);
+    let mut tally = Tally::default();
+    let mut decided = 0;
+    for _ in 0..600 {
+        let shape =
+            Shape { signals: 1, names: random.between(1, 3), nodes: 0, clauses: 1, numbers: 4 };
+        let translated =
+            compare::translate(&generate::shared(&mut random, shape).bytes(), 8192).unwrap();
+        tally.formulas += 1;
+        for cycles in 1..=4 {
+            for word in 0..1u16 << cycles {
+                let trace: Vec<u16> = (0..cycles).map(|t| word >> t & 1).collect();
+                tally.evaluated(translated.agrees(&trace));
+                let source = &translated.source;
+                decided +=
+                    (verdict(source, &trace) != verdict_by(Rule::Inside, source, &trace)) as usize;
+            }
+        }
+    }
+    tally.demand("shared, on every trace", [0, 0, 0, 0, 5000, 5000]);
+    compare::report(format!("shared, on every trace: request 4 decides {decided} verdicts"));
+    assert!(decided >= 1200, "{decided} verdicts");
 }
 
 /// Long traces: many nodes without names, few with them.

@@ -5,7 +5,8 @@ mod cases;
 mod reference;
 
 use build::{hex, Compare, Sheet, Trace};
-use cases::{examples, paper, Case};
+use cases::{examples, names, paper, Case};
+use reference::clauses::{verdict_by, Rule};
 use reference::{formula, stored};
 
 fn run(cases: Vec<Case>) {
@@ -50,6 +51,17 @@ fn traps() {
 #[test]
 fn corners() {
     run(examples::corners());
+}
+
+#[test]
+fn names_that_stay() {
+    for stays in names::cases() {
+        let sheet = stored::sheet(&stays.case.sheet).unwrap();
+        let trace = stored::trace(&stays.case.trace, &sheet).unwrap();
+        let before = verdict_by(Rule::Inside, &sheet, &trace);
+        assert_eq!(before, stays.before, "{}, before", stays.case.what);
+        run(vec![stays.case]);
+    }
 }
 
 #[test]

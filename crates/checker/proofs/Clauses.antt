@@ -6,7 +6,7 @@ use mathlib.Core.List.{List, [], _∷_}
 use mathlib.Core.Path.{_≡_, refl, sym, ap, subst, _∙_}
 use lib.ListN.{length}
 use Rattle.semantics.specs.Proposition.{Trace, bit}
-use Rattle.semantics.specs.Placement.{noNames, somePlacement}
+use Rattle.semantics.specs.Placement.{somePlacement}
 use Rattle.semantics.specs.Clause.{Clause, breaks}
 use Rattle.semantics.specs.Verdict.{verdict}
 use Rattle.stored.specs.declared.StoredClause.{StoredClause}
@@ -89,8 +89,8 @@ module _ {nodes reach columns words : List ℕ} {count n : ℕ} (l : Laid nodes 
         task-least (nodeAt nodes) d (traceOf n columns) (n - 1) places r (record { first = s .first-mask; second = s .second-mask; third = s .third-mask })
         (s .type-least) (s .type-most) (s .fits) (omega arith)
         (subst
-        (λ (m : ℕ). IsLeast places (λ y. somePlacement noNames (bit (taskOf d .quantified)) 0 (n - 1) (standing (0 ∷ 0 ∷ 0 ∷ [])) (λ ν. numbered m (missedTask (nodeAt nodes) (taskOf d) (traceOf n columns) (n - 1) ν) y)) r)
+        (λ (m : ℕ). IsLeast places (λ y. somePlacement (bit (taskOf d .quantified)) 0 (n - 1) (standing (0 ∷ 0 ∷ 0 ∷ [])) (λ ν. numbered m (missedTask (nodeAt nodes) (taskOf d) (traceOf n columns) (n - 1) ν) y)) r)
         (sym long)
         (subst
-        (λ (t : Task). IsLeast places (λ y. somePlacement noNames (bit (t .quantified)) 0 (n - 1) (standing (0 ∷ 0 ∷ 0 ∷ [])) (λ ν. numbered n (missedTask (nodeAt nodes) t (traceOf n columns) (n - 1) ν) y)) r)
+        (λ (t : Task). IsLeast places (λ y. somePlacement (bit (t .quantified)) 0 (n - 1) (standing (0 ∷ 0 ∷ 0 ∷ [])) (λ ν. numbered n (missedTask (nodeAt nodes) t (traceOf n columns) (n - 1) ν) y)) r)
         e least))

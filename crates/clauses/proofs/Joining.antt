@@ -50,7 +50,7 @@ module _ {y : List ℕ} (map : List ℕ) (x : ℕ → Node) (n : ℕ) (d : Store
       → Tells y (at (entryOf map root)) (undrawn (formulaAt x root)) 0
   part-told used root mask p u = told (mapped root (p .root-found u .less) .formula (p .root-found u .sorted))
 
-  clause-told : Ready y → Tells y (brokenIn map d) (brokenClause (clauseOf x d)) (10 + 6 * headerOf y .names)
+  clause-told : Ready y → Tells y (brokenIn map d) (brokenClause (clauseOf x d)) (10 + 3 * headerOf y .names)
   unfolding brokenIn brokenClause clauseOf partOf
   clause-told ready =
       let m = headerOf y .names in
@@ -78,17 +78,17 @@ unfolding clausesAt
 clauses-at nodes clauses c k h = getD-inOrder c (clauseAt nodes clauses) k (clauseAt nodes clauses k) h
 
 -- ---- costs
-joined-cost : (k m : ℕ) → k * (11 + 6 * m) + (11 + 6 * m) ≡ (k + 1) * (11 + 6 * m)
-joined-cost k m = sym (native.Mathlib.Nat.add-mul k 1 (11 + 6 * m) ∙ ap (λ (z : ℕ). k * (11 + 6 * m) + z) (native.Mathlib.Nat.one-mul (11 + 6 * m)))
+joined-cost : (k m : ℕ) → k * (11 + 3 * m) + (11 + 3 * m) ≡ (k + 1) * (11 + 3 * m)
+joined-cost k m = sym (native.Mathlib.Nat.add-mul k 1 (11 + 3 * m) ∙ ap (λ (z : ℕ). k * (11 + 3 * m) + z) (native.Mathlib.Nat.one-mul (11 + 3 * m)))
 
-joined-most : (k m : ℕ) → k ≤ 8 → m ≤ 3 → k * (11 + 6 * m) ≤ 232
+joined-most : (k m : ℕ) → k ≤ 8 → m ≤ 3 → k * (11 + 3 * m) ≤ 160
 joined-most k zero h l = omega arith
 joined-most k (suc zero) h l = omega arith
 joined-most k (suc (suc zero)) h l = omega arith
 joined-most k (suc (suc (suc zero))) h l = omega arith
 joined-most k (suc (suc (suc (suc m)))) h l = absurd (omega arith)
 
-pub joined-bound : (c m : ℕ) → 1 ≤ c → m ≤ 3 → c * (11 + 6 * m) + 2 ≤ c * (16 + 5 * m)
+pub joined-bound : (c m : ℕ) → 1 ≤ c → m ≤ 3 → c * (11 + 3 * m) + 2 ≤ c * (16 + 5 * m)
 joined-bound c zero h l = omega arith
 joined-bound c (suc zero) h l = omega arith
 joined-bound c (suc (suc zero)) h l = omega arith

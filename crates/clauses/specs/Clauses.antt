@@ -41,7 +41,7 @@ clausesAt nodes clauses c = inOrder c (clauseAt nodes clauses)
 
 -- the most nodes a clause takes with the `or` that joins it to the others, and a requirement
 abbrev pub clauseCost : ℕ → ℕ
-clauseCost m = 11 + 6 * m
+clauseCost m = 11 + 3 * m
 
 unfoldable pub requirementCost : List ℕ → ℕ → ℕ → ℕ → ℕ
 requirementCost nodes n c m = copyCosts (nodeAt nodes) n + c * clauseCost m + 2

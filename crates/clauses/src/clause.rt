@@ -3,7 +3,6 @@
 use crate::placing;
 use emission::shared;
 use plans::node;
-ghost use Prim.Native.Nat.{_<_};
 ghost use Rattle.semantics.specs.Proposition.{bit};
 ghost use Rattle.semantics.specs.Formula.{at};
 ghost use Rattle.semantics.specs.Clause.{pref, init, anti, implies, follows, triggers};
@@ -14,7 +13,7 @@ ghost use Rattle.plans.specs.Plan.{Wrote};
 fn put_pref(out: &mut [u8], f1: usize, m1: usize) -> usize
     ensures { λ r. ⌜ Wrote (now (out .entry)) (now (out .exit)) r (brokenOf pref (at f1) (bit m1) (at f1) (bit m1) (at f1) (bit m1)) ⌝ }
 {
-    let held = placing::put_fresh(out, m1, f1);
+    let held = placing::put_placed(out, m1, f1);
     let missed = node::put_not(out, held);
     node::put_chop(out, missed, shared::ANYWHERE)
 }
@@ -22,18 +21,19 @@ fn put_pref(out: &mut [u8], f1: usize, m1: usize) -> usize
 fn put_init(out: &mut [u8], f1: usize, m1: usize, f2: usize, m2: usize) -> usize
     ensures { λ r. ⌜ Wrote (now (out .entry)) (now (out .exit)) r (brokenOf init (at f1) (bit m1) (at f2) (bit m2) (at f1) (bit m1)) ⌝ }
 {
-    let given = placing::put_placed(out, m2, m1, f1);
+    let rest = placing::besides(m1, m2);
+    let given = placing::put_placed(out, rest, f1);
     let somewhere = node::put_chop(out, given, shared::ANYWHERE);
     let missed = node::put_not(out, somewhere);
     let unanswered = node::put_and(out, f2, missed);
-    let placed = placing::put_fresh(out, m2, unanswered);
+    let placed = placing::put_placed(out, m2, unanswered);
     node::put_chop(out, placed, shared::ANYWHERE)
 }
 
 fn put_anti(out: &mut [u8], f1: usize, m1: usize) -> usize
     ensures { λ r. ⌜ Wrote (now (out .entry)) (now (out .exit)) r (brokenOf anti (at f1) (bit m1) (at f1) (bit m1) (at f1) (bit m1)) ⌝ }
 {
-    let given = placing::put_fresh(out, m1, f1);
+    let given = placing::put_placed(out, m1, f1);
     let started = node::put_chop(out, given, shared::ANYWHERE);
     node::put_chop(out, shared::ANYWHERE, started)
 }
@@ -41,10 +41,11 @@ fn put_anti(out: &mut [u8], f1: usize, m1: usize) -> usize
 fn put_implies(out: &mut [u8], f1: usize, m1: usize, f2: usize, m2: usize) -> usize
     ensures { λ r. ⌜ Wrote (now (out .entry)) (now (out .exit)) r (brokenOf implies (at f1) (bit m1) (at f2) (bit m2) (at f1) (bit m1)) ⌝ }
 {
-    let given = placing::put_placed(out, m1, m2, f2);
+    let rest = placing::besides(m2, m1);
+    let given = placing::put_placed(out, rest, f2);
     let missed = node::put_not(out, given);
     let unanswered = node::put_and(out, f1, missed);
-    let placed = placing::put_fresh(out, m1, unanswered);
+    let placed = placing::put_placed(out, m1, unanswered);
     let started = node::put_chop(out, placed, shared::ANYWHERE);
     node::put_chop(out, shared::ANYWHERE, started)
 }
@@ -58,15 +59,15 @@ fn put_shortest(out: &mut [u8], f: usize) -> usize
     node::put_and(out, f, not_longer)
 }
 
-// D3 is Ξ, and D2 on no interval with the same beginning up to there.
+// D3 is Ξ, with the names inside that D1 lacks, and D2 on no interval with the same beginning up to there.
 fn put_unanswered(out: &mut [u8], m1: usize, f2: usize, m2: usize, f3: usize, m3: usize) -> usize
-    requires { ⌜ (m1 < 8) × (m3 < 8) ⌝ }
     ensures { λ r. ⌜ Wrote (now (out .entry)) (now (out .exit)) r (unansweredOf (bit m1) (at f2) (bit m2) (at f3) (bit m3)) ⌝ }
 {
-    let before = placing::both(m1, m3);
+    let added = placing::besides(m3, m1);
+    let rest = placing::besides(m2, placing::both(m1, m3));
     let shortest = put_shortest(out, f3);
-    let ended = placing::put_once(out, m3, shortest);
-    let given = placing::put_placed(out, before, m2, f2);
+    let ended = placing::put_once(out, added, shortest);
+    let given = placing::put_placed(out, rest, f2);
     let somewhere = node::put_chop(out, given, shared::ANYWHERE);
     let missed = node::put_not(out, somewhere);
     node::put_and(out, ended, missed)
@@ -81,7 +82,6 @@ fn put_follows(
     f3: usize,
     m3: usize,
 ) -> usize
-    requires { ⌜ (m1 < 8) × (m3 < 8) ⌝ }
     ensures { λ r. ⌜ Wrote (now (out .entry)) (now (out .exit)) r (brokenOf follows (at f1) (bit m1) (at f2) (bit m2) (at f3) (bit m3)) ⌝ }
 {
     let names = placing::both(m1, m3);
@@ -89,7 +89,7 @@ fn put_follows(
     let unanswered = put_unanswered(out, m1, f2, m2, f3, m3);
     let rest = node::put_chop(out, unanswered, shared::ANYWHERE);
     let joined = node::put_chop(out, first, rest);
-    let placed = placing::put_fresh(out, names, joined);
+    let placed = placing::put_placed(out, names, joined);
     node::put_chop(out, shared::ANYWHERE, placed)
 }
 
@@ -102,7 +102,6 @@ fn put_triggers(
     f3: usize,
     m3: usize,
 ) -> usize
-    requires { ⌜ (m1 < 8) × (m3 < 8) ⌝ }
     ensures { λ r. ⌜ Wrote (now (out .entry)) (now (out .exit)) r (brokenOf triggers (at f1) (bit m1) (at f2) (bit m2) (at f3) (bit m3)) ⌝ }
 {
     let names = placing::both(m1, m3);
@@ -111,7 +110,7 @@ fn put_triggers(
     let unanswered = put_unanswered(out, m1, f2, m2, f3, m3);
     let rest = node::put_chop(out, unanswered, shared::ANYWHERE);
     let joined = node::put_and(out, first, rest);
-    let placed = placing::put_fresh(out, names, joined);
+    let placed = placing::put_placed(out, names, joined);
     node::put_chop(out, shared::ANYWHERE, placed)
 }
 
@@ -126,7 +125,6 @@ pub fn put_typed(
     f3: usize,
     m3: usize,
 ) -> usize
-    requires { ⌜ (m1 < 8) × (m3 < 8) ⌝ }
     ensures { λ r. ⌜ Wrote (now (out .entry)) (now (out .exit)) r (brokenOf (typeOf «clause_type») (at f1) (bit m1) (at f2) (bit m2) (at f3) (bit m3)) ⌝ }
 {
     if clause_type == 2 {

@@ -7,7 +7,7 @@ use stored::StoredClause;
 use stored::clauses;
 use stored::masks;
 ghost use mathlib.Core.Path.{_≡_};
-ghost use Prim.Native.Nat.{_+_, _≤_, _<_};
+ghost use Prim.Native.Nat.{_+_, _≤_};
 ghost use Rattle.semantics.specs.Translation.{translation};
 ghost use Rattle.stored.specs.Sheet.{headerOf};
 ghost use Rattle.plans.specs.Emission.{count, Emits, Ready};
@@ -16,7 +16,6 @@ ghost use Rattle.emission.specs.Copying.{NodesIn};
 ghost use Rattle.clauses.specs.Clauses.{ClausesIn, brokenIn, clausesAt, requirementCost};
 
 fn put_clause(out: &mut [u8], map: &[usize], d: StoredClause) -> usize
-    requires { ⌜ (d .mask1 < 8) × (d .mask3 < 8) ⌝ }
     ensures { λ r. ⌜ Wrote (now (out .entry)) (now (out .exit)) r (brokenIn (now (map .entry)) d) ⌝ }
 {
     let f1 = masks::entry_of(map, d.root1);

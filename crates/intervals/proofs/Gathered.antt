@@ -13,12 +13,12 @@ use lib.Seq.{getD-set-same, getD-set-other}
 use borrow.Author.Tests.{leb-true, leb-false, le-leb, lt-leb}
 use Rattle.semantics.specs.Proposition.{bit}
 use Rattle.semantics.specs.Placement.{Names, Placement}
+use Rattle.semantics.specs.Inside.{insideName, inside}
 use Rattle.semantics.proofs.Tests.{same, test, false-not, and-left, and-right, and-intro, and-comm, and-false, and-false-right, or-left, or-right, or-false}
 use Rattle.rows.specs.Row.{word}
 use Rattle.rows.proofs.Bits.{bit-or}
 use Rattle.rows.proofs.Masks.{cut-bit}
 use Rattle.tables.specs.Table.{rowAt}
-use Rattle.intervals.specs.Search.{insideName, inside}
 use Rattle.intervals.specs.Rows.{testOf}
 use Rattle.intervals.specs.Gather.{firstName, lastName, cutTo, gathered, Adds, Ends}
 

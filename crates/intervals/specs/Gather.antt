@@ -5,9 +5,9 @@ use mathlib.Core.List.{List}
 use mathlib.Core.Path.{_≡_}
 use Rattle.semantics.specs.Proposition.{bit}
 use Rattle.semantics.specs.Placement.{Names, Placement}
+use Rattle.semantics.specs.Inside.{inside}
 use Rattle.rows.specs.Row.{shortestOf}
 use Rattle.tables.specs.Table.{rowAt}
-use Rattle.intervals.specs.Search.{inside}
 use Rattle.intervals.specs.Rows.{testOf}
 
 -- the first and the last cycle on which a name of the set stands; 63 and 0 if there is none

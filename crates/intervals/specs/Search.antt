@@ -1,23 +1,17 @@
 -- How the check looks for a broken place: the names that a clause quantifies universally are put on cycles of the trace first; three tests on
 -- intervals then say all. The laws join this with the meanings; a reader need not believe it.
 use Prim.Native.Nat.{ℕ}
-use mathlib.Core.Bool.{Bool, true, false, not, _&&_, _||_}
+use mathlib.Core.Bool.{Bool, true, false, not, _&&_}
 use lib.Dec.{leb, eqb}
 use Rattle.semantics.specs.Cycles.{someIn}
 use Rattle.semantics.specs.Proposition.{Trace}
-use Rattle.semantics.specs.Placement.{Names, noNames, union, Placement, somePlacement}
+use Rattle.semantics.specs.Placement.{Names, noNames, union, without, Placement, somePlacement}
+use Rattle.semantics.specs.Inside.{inside}
 use Rattle.semantics.specs.Clause.{Part, ClauseType, pref, init, anti, implies, follows, triggers, on, shortest}
 
--- name u stands in [x,y] if the set has it
-unfoldable pub insideName : ℕ → Names → ℕ → ℕ → Placement → Bool
-insideName u names x y ν = not (names u) || leb x (ν u) && leb (ν u) y
-
--- every name of the set stands in [x,y]
-unfoldable pub inside : Names → ℕ → ℕ → Placement → Bool
-inside names x y ν = insideName 0 names x y ν && (insideName 1 names x y ν && insideName 2 names x y ν)
-
-unfoldable pub without : Names → Names → Names
-without a b u = a u && not (b u)
+-- a part with those of its names that no part before it lists
+unfoldable pub fresh : Names → Part → Part
+fresh before d = record { formula = d .formula; names = without (d .names) before }
 
 -- the names that a type quantifies universally, the part that it starts from, and the part that answers
 unfoldable pub quantified : ClauseType → Names → Names → Names → Names
@@ -51,9 +45,9 @@ onInside d σ ν x y = inside (d .names) x y ν && on d σ ν x y
 unfoldable pub shortInside : Part → Trace → Placement → ℕ → ℕ → Bool
 shortInside d σ ν x y = inside (d .names) x y ν && shortest d σ ν x y
 
--- some cycles up to `last` for the names that are left give D on [x,y]
-unfoldable pub answered : Names → Part → Trace → ℕ → Placement → ℕ → ℕ → Bool
-answered rest d σ last ν x y = somePlacement noNames rest 0 last ν (λ ν′. onInside d σ ν′ x y)
+-- some cycles up to `last` for the part's names give D on [x,y] with them inside
+unfoldable pub answered : Part → Trace → ℕ → Placement → ℕ → ℕ → Bool
+answered d σ last ν x y = somePlacement (d .names) 0 last ν (λ ν′. onInside d σ ν′ x y)
 
 -- the interval is unanswered at i, j, k, by the three tests
 unfoldable pub missed : ClauseType → (ℕ → ℕ → Bool) → (ℕ → ℕ → Bool) → (ℕ → ℕ → Bool) → ℕ → ℕ → ℕ → Bool
@@ -80,8 +74,6 @@ unfoldable pub missedBy : ClauseType → Part → Part → Part → Trace → �
 missedBy κ d₁ d₂ d₃ σ last ν i j k =
     missed κ
     (onInside (premise κ d₁ d₂) σ ν)
-    (shortInside d₃ σ ν)
-    (answered
-    (without (reply κ d₁ d₂ .names) (quantified κ (d₁ .names) (d₂ .names) (d₃ .names)))
-    (reply κ d₁ d₂) σ last ν)
+    (shortInside (fresh (d₁ .names) d₃) σ ν)
+    (answered (fresh (quantified κ (d₁ .names) (d₂ .names) (d₃ .names)) (reply κ d₁ d₂)) σ last ν)
     i j k

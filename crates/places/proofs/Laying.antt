@@ -8,6 +8,7 @@ use lib.ListN.{length, getD, replicate, getD-replicate}
 use Rattle.semantics.specs.Proposition.{Trace, bit}
 use Rattle.semantics.specs.Formula.{holds}
 use Rattle.semantics.specs.Placement.{Placement, marks, somePlacement}
+use Rattle.semantics.specs.Inside.{inside}
 use Rattle.semantics.specs.Clause.{on, shortest}
 use Rattle.semantics.proofs.Tests.{is-false, false-not}
 use Rattle.rows.specs.Row.{row, shortestOf}
@@ -23,7 +24,7 @@ use Rattle.tables.proofs.Columns.{names-columns, names-told}
 use Rattle.tables.proofs.Fills.{ready-other}
 use Rattle.tables.proofs.Moves.{table-placed}
 use Rattle.places.specs.declared.task.Task.{Task}
-use Rattle.intervals.specs.Search.{inside, onInside, shortInside, answered, premised, missed}
+use Rattle.intervals.specs.Search.{onInside, shortInside, answered, premised, missed}
 use Rattle.intervals.specs.Places.{numbered, IsLeast}
 use Rattle.intervals.specs.Rows.{typeOf, testOf}
 use Rattle.intervals.specs.Gather.{cutTo, gathered, Adds, Ends}
@@ -92,7 +93,7 @@ module _ {nodes words : List ℕ} {count n : ℕ} {σ : Trace} (ν : Placement) 
     thirds = shortInside (partOf (nodeAt nodes) (task .third) (task .thirds)) σ ν
 
     replies : ℕ → ℕ → Bool
-    replies = answered (bit (task .rest)) (partOf (nodeAt nodes) (task .reply) (task .replies)) σ (n - 1) ν
+    replies = answered (partOf (nodeAt nodes) (task .reply) (task .replies)) σ (n - 1) ν
 
     abbrev Missed : ℕ → Type 0
     Missed r = IsLeast best (λ y. missedOn nodes σ n task y ν) r
@@ -126,9 +127,9 @@ module _ {nodes words : List ℕ} {count n : ℕ} {σ : Trace} (ν : Placement) 
       unfolding thirds
       third-is b e o h = fresh third _ a₃ b e o h ∙ gathered-short (task .thirds) (f .third) b e o h
 
-      pub place-least : (answers : List ℕ) (r : ℕ) → Adds n (replicate 64 0) answers (λ b e. overLast 3 (bit (task .rest)) n ν (replyOn nodes σ task b e))
+      pub place-least : (answers : List ℕ) (r : ℕ) → Adds n (replicate 64 0) answers (λ b e. overLast 3 (bit (task .replies)) n ν (replyOn nodes σ task b e))
           → IsLeast best (numbered n (missed (typeOf (task .«clause_type»)) (testOf first) (testOf third) (testOf answers))) r → Missed r
-      unfolding missedOn missedTask answered replyOn overLast somePlacement premises thirds replies
+      unfolding missedOn missedTask answered replyOn overLast somePlacement partOf premises thirds replies
       place-least answers r a₂ least =
           missed-least n (testOf first) premises (testOf third) thirds (testOf answers) replies first-is third-is
           (λ b e o h. fresh answers _ a₂ b e o h) (typeOf (task .«clause_type»)) best r least

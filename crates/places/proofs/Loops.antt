@@ -12,7 +12,7 @@ use lib.Seq.{getD-set-same, getD-set-other}
 use borrow.Author.Tests.{leb-true, eqb-true, eqb-false}
 use Rattle.semantics.specs.Cycles.{someFrom, someIn}
 use Rattle.semantics.specs.Proposition.{Trace, bit}
-use Rattle.semantics.specs.Placement.{Names, noNames, Placement, unplaced, moved, placeName}
+use Rattle.semantics.specs.Placement.{Names, Placement, unplaced, moved, placeName}
 use Rattle.semantics.specs.Clause.{ClauseType, pref, init, anti, implies, follows, triggers}
 use Rattle.semantics.proofs.Tests.{same, test, or-false}
 use Rattle.semantics.proofs.Cycles.{some-intro, some-elim, some-none, some-cong}
@@ -46,8 +46,8 @@ unplaced-stands = fun-ext all
 
 -- a loop over the cycles of name u is its placement
 pub place-loop : (u : ℕ) (names : Names) (n : ℕ) (ν : Placement) (q : Placement → Bool) → 0 < n
-    → someIn (lowOf (names u) (ν u)) (lastOf (names u) n (ν u)) (λ t. q (moved u t ν)) ≡ placeName u noNames names 0 (n - 1) ν q
-unfolding placeName noNames
+    → someIn (lowOf (names u) (ν u)) (lastOf (names u) n (ν u)) (λ t. q (moved u t ν)) ≡ placeName u names 0 (n - 1) ν q
+unfolding placeName
 place-loop u names n ν q h = go (names u)
   where
     go : (a : Bool) → someIn (cond a 0 (ν u)) (cond a (n - 1) (ν u)) (λ t. q (moved u t ν)) ≡ cond a (someIn 0 (n - 1) (λ t. q (moved u t ν))) (q ν)

@@ -90,7 +90,7 @@ module _ {spot : Spot} {job : Job} {best : ℕ} {nodes reach columns words : Lis
 
   -- the names of the answer over the same placement
   abbrev pub within : Job
-  within = record { task = job .task; count = job .count; n = job .n; answering = true; names = job .task .rest }
+  within = record { task = job .task; count = job .count; n = job .n; answering = true; names = job .task .replies }
 
   abbrev pub afresh : Spot
   afresh = record { left = 3; cycles = spot .cycles }
@@ -133,13 +133,13 @@ module _ {spot : Spot} {job : Job} {best : ℕ} {nodes reach columns words : Lis
 
       -- with the answers of a walk over their names
       pub find-open : {rows rows′ : List ℕ} {r x : ℕ} → rows ≡ replicate 64 0
-          → Walked within nodes (traceOf (job .n) columns′) best x rows rows′ (overLast 3 (bit (job .task .rest)) (job .n) (standing (spot .cycles)))
+          → Walked within nodes (traceOf (job .n) columns′) best x rows rows′ (overLast 3 (bit (job .task .replies)) (job .n) (standing (spot .cycles)))
           → Found rows′ r → Missed r
       find-open {rows} {rows′} {r} z a l =
           place-least (standing (spot .cycles)) few-cycles (p .tables) (job .task) (w .formulas) best first third a₁ a₃ rows′ r
-          (subst (λ (τ : Trace). Adds (job .n) (replicate 64 0) rows′ (λ b e. overLast 3 (bit (job .task .rest)) (job .n) (standing (spot .cycles)) (replyOn nodes τ (job .task) b e)))
+          (subst (λ (τ : Trace). Adds (job .n) (replicate 64 0) rows′ (λ b e. overLast 3 (bit (job .task .replies)) (job .n) (standing (spot .cycles)) (replyOn nodes τ (job .task) b e)))
           (p .laid .told)
-          (subst (λ (k : List ℕ). Adds (job .n) k rows′ (λ b e. overLast 3 (bit (job .task .rest)) (job .n) (standing (spot .cycles)) (replyOn nodes (traceOf (job .n) columns′) (job .task) b e))) z
+          (subst (λ (k : List ℕ). Adds (job .n) k rows′ (λ b e. overLast 3 (bit (job .task .replies)) (job .n) (standing (spot .cycles)) (replyOn nodes (traceOf (job .n) columns′) (job .task) b e))) z
           (a .answers refl)))
           l
 

@@ -5,7 +5,7 @@ use mathlib.Core.List.{List}
 use mathlib.Core.Path.{_≡_}
 use lib.ListN.{length, set}
 use Rattle.semantics.specs.Proposition.{Trace, bit}
-use Rattle.semantics.specs.Placement.{Names, Placement, noNames, placeName}
+use Rattle.semantics.specs.Placement.{Names, Placement, placeName}
 use Rattle.traces.specs.Columns.{traceOf}
 use Rattle.stored.specs.Node.{nodeAt, requirementSorts, sortOf, formula}
 use Rattle.stored.specs.Clause.{partOf}
@@ -52,9 +52,9 @@ withNext spot t = record { left = spot .left - 1; cycles = set (spot .cycles) (3
 -- a test of placements, with the last names of a set, as many as are left, put on any cycles
 unfoldable pub overLast : ℕ → Names → ℕ → Placement → (Placement → Bool) → Bool
 overLast zero names n ν q = q ν
-overLast (suc left) names n ν q = placeName (2 - left) noNames names 0 (n - 1) ν (λ ν′. overLast left names n ν′ q)
+overLast (suc left) names n ν q = placeName (2 - left) names 0 (n - 1) ν (λ ν′. overLast left names n ν′ q)
 
--- the answering part on [b,e] with its names inside
+-- the answering part on [b,e] with those names inside that no part before lists
 unfoldable pub replyOn : List ℕ → Trace → Task → ℕ → ℕ → Placement → Bool
 replyOn nodes σ t b e ν = onInside (partOf (nodeAt nodes) (t .reply) (t .replies)) σ ν b e
 

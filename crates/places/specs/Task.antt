@@ -5,7 +5,7 @@ use mathlib.Core.List.{[], _∷_}
 use lib.Bits.{bitAnd, bitOr}
 use lib.Dec.{ltb, eqb}
 use lib.ListN.{getD}
-use Rattle.semantics.specs.Proposition.{Trace, bit}
+use Rattle.semantics.specs.Proposition.{Trace}
 use Rattle.semantics.specs.Placement.{Placement}
 use Rattle.stored.specs.declared.Node.{Node}
 use Rattle.stored.specs.declared.StoredClause.{StoredClause}
@@ -20,21 +20,19 @@ use Rattle.intervals.specs.Rows.{typeOf}
 unfoldable pub typeNumbered : ℕ → ClauseType
 typeNumbered k = getD (Pref ∷ Pref ∷ Init ∷ Anti ∷ Implies ∷ Follows ∷ Triggers ∷ []) k Triggers
 
--- A type without Ξ's part takes the first part there: it says nothing.
+-- Each part with those of its names that no part before it lists. A type without Ξ's part takes the first part there: it says nothing.
 unfoldable pub taskOf : StoredClause → Task
 taskOf d =
     let quantified = cond (eqb (d .«clause_type») 1) 0 (cond (eqb (d .«clause_type») 2) (d .mask2) (cond (ltb (d .«clause_type») 5) (d .mask1) (bitOr (d .mask1) (d .mask3)))) in
-    let replies = cond (ltb (d .«clause_type») 4) (d .mask1) (d .mask2) in
     record {
       «clause_type» = typeNumbered (d .«clause_type»);
       premise = cond (eqb (d .«clause_type») 2) (d .root2) (d .root1);
       premises = cond (eqb (d .«clause_type») 2) (d .mask2) (d .mask1);
       third = cond (ltb (d .«clause_type») 5) (d .root1) (d .root3);
-      thirds = cond (ltb (d .«clause_type») 5) (d .mask1) (d .mask3);
+      thirds = cond (ltb (d .«clause_type») 5) (d .mask1) (bitAnd (d .mask3) (2 ^ 64 - 1 - d .mask1));
       reply = cond (ltb (d .«clause_type») 4) (d .root1) (d .root2);
-      replies = replies;
+      replies = bitAnd (cond (ltb (d .«clause_type») 4) (d .mask1) (d .mask2)) (2 ^ 64 - 1 - quantified);
       quantified = quantified;
-      rest = bitAnd replies (2 ^ 64 - 1 - quantified);
     }
 
 -- the interval is unanswered at i, j, k, by the task's parts, with the quantified names standing where ν puts them
@@ -43,5 +41,5 @@ missedTask x t σ last ν i j k =
     missed (typeOf (t .«clause_type»))
     (onInside (partOf x (t .premise) (t .premises)) σ ν)
     (shortInside (partOf x (t .third) (t .thirds)) σ ν)
-    (answered (bit (t .rest)) (partOf x (t .reply) (t .replies)) σ last ν)
+    (answered (partOf x (t .reply) (t .replies)) σ last ν)
     i j k

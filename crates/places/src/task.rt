@@ -6,8 +6,8 @@ ghost use mathlib.Core.Path.{_≡_};
 ghost use Prim.Native.Nat.{_≤_};
 ghost use Rattle.places.specs.Task.{typeNumbered, taskOf};
 
-// The nodes of the part that a clause starts from, of Ξ's part and of the part that answers, each with its names as a mask; the
-// names that are quantified universally; and those of the answer that are left.
+// The nodes of the part that a clause starts from, of Ξ's part and of the part that answers, each with a mask of those of its names
+// that no part before it lists; and the names that are quantified universally.
 pub struct Task {
     pub clause_type: ClauseType,
     pub premise: usize,
@@ -17,7 +17,6 @@ pub struct Task {
     pub reply: usize,
     pub replies: usize,
     pub quantified: usize,
-    pub rest: usize,
 }
 
 fn type_numbered(number: usize) -> ClauseType
@@ -46,12 +45,11 @@ pub fn task_of(d: StoredClause) -> Task
     let premise = choose(two, d.root2, d.root1);
     let premises = choose(two, d.mask2, d.mask1);
     let third = choose(early, d.root1, d.root3);
-    let thirds = choose(early, d.mask1, d.mask3);
+    let thirds = choose(early, d.mask1, d.mask3 & !d.mask1);
     let reply = choose(same, d.root1, d.root2);
-    let replies = choose(same, d.mask1, d.mask2);
     let late = choose(early, d.mask1, d.mask1 | d.mask3);
     let quantified = choose(number == 1, 0, choose(two, d.mask2, late));
-    let rest = replies & !quantified;
+    let replies = choose(same, d.mask1, d.mask2) & !quantified;
     Task {
         clause_type,
         premise,
@@ -61,6 +59,5 @@ pub fn task_of(d: StoredClause) -> Task
         reply,
         replies,
         quantified,
-        rest,
     }
 }

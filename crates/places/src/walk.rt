@@ -156,7 +156,7 @@ fn find(
         count,
         n,
         answering: true,
-        names: task.rest,
+        names: task.replies,
     };
     let _ = walk(
         Spot { left: 3, cycles },

@@ -1,21 +1,21 @@
 -- In the formula of clauses that fit, each name stands under its quantifier.
 use Prim.Native.Nat.{ℕ, zero, suc, _<_}
-use mathlib.Core.Bool.{Bool, true, false, not, cond, _&&_, _||_, false≢true}
+use mathlib.Core.Bool.{Bool, true, false, cond, _&&_, _||_, false≢true}
 use mathlib.Core.List.{List, [], _∷_}
 use mathlib.Core.Logic.{inl, inr}
-use mathlib.Core.Path.{_≡_, refl, sym, _∙_, ap}
+use mathlib.Core.Path.{_≡_, refl, sym, _∙_}
 use native.Mathlib.Omega.{arith}
 use borrow.Author.Tests.{ltb-true, lt-ltb, eq-eqb}
 use lib.Dec.{ltb, eqb}
 use Rattle.semantics.specs.Proposition.{Proposition, never, always, signal, name, negated, bothOf, eitherOf}
-use Rattle.semantics.specs.Formula.{Formula, point, stretch, whole, unit, chop, conjunction, disjunction, star, slen, scount, sdur, drawn, at, gap, negation, forSome, Symbol, low, high, either, lowStretch, highStretch, eitherStretch, steady}
-use Rattle.semantics.specs.Placement.{Names, noNames, everyName, union, listed}
+use Rattle.semantics.specs.Formula.{Formula, point, stretch, whole, unit, chop, conjunction, disjunction, star, slen, scount, sdur, drawn, at, gap, negation, forSome, equal, Symbol, low, high, either, lowStretch, highStretch, eitherStretch, steady}
+use Rattle.semantics.specs.Placement.{Names, noNames, union, without, listed}
 use Rattle.semantics.specs.Clause.{Part, ClauseType, pref, init, anti, implies, follows, triggers, Role, assumption, commitment, Clause}
 use Rattle.semantics.specs.Verdict.{hasRole}
 use Rattle.semantics.specs.Reach.{propositionWithin, with, within, fits, partsFit, clauseFits, allFit}
 use Rattle.semantics.specs.Translation.{anywhere, extended, nothing, undrawnSymbol, undrawnMark, undrawnGap, undrawn, onceName, placedName, placed, once, shortestOf, unansweredOf, brokenOf, brokenClause, joinBroken, translation}
 use Rattle.semantics.proofs.Tests.{both, and-left, and-right, or-left, or-right, or-elim}
-use Rattle.semantics.proofs.Names.{listed-is, listed-too}
+use Rattle.semantics.proofs.Names.{listed-is, listed-left, listed-right, listed-less, union-left, besides}
 
 -- the names of one set are names of another
 abbrev Has : Names → Names → Type 0
@@ -94,25 +94,19 @@ undrawn-within K (forSome u f) e = undrawn-within (with u K) f e
 joined : ℕ → Names → Names → Names
 joined u names K v = eqb v u && names u || K v
 
-name-within : (u : ℕ) (before names K : Names) (f : Formula) → (names u ≡ true → before u ≡ true → K u ≡ true) → within (joined u names K) f ≡ true → within K (placedName u before names f) ≡ true
-unfolding placedName onceName within propositionWithin with joined
-name-within u before names K f h e = go (names u) (before u) refl refl
+-- with what is not of the set, nothing is joined
+joined-none : (u : ℕ) (names K : Names) → names u ≡ false → Has (joined u names K) K
+unfolding joined
+joined-none u names K n v x =
+    elim (or-elim (eqb v u && names u) (K v) x) [
+      | inl y ↦ absurd (false≢true (sym n ∙ and-right (eqb v u) (names u) y))
+      | inr y ↦ y
+    ]
+
+name-within : (u : ℕ) (names K : Names) (f : Formula) → within (joined u names K) f ≡ true → within K (placedName u names f) ≡ true
+unfolding placedName within propositionWithin with joined
+name-within u names K f e = go (names u) refl
   where
-    self : with u K u ≡ true
-    self = or-left (eqb u u) (K u) (eq-eqb u u refl)
-
-    narrow : (p q : Bool) → names u ≡ p → (v : ℕ) → (eqb v u && p || K v) ≡ true → (p ≡ true → K u ≡ true) → K v ≡ true
-    narrow true q n v x k =
-        elim (or-elim (eqb v u && true) (K v) x) [
-          | inl y ↦ ap K (borrow.Author.Tests.eqb-true v u (and-left (eqb v u) true y)) ∙ k refl
-          | inr y ↦ y
-        ]
-    narrow false q n v x k =
-        elim (or-elim (eqb v u && false) (K v) x) [
-          | inl y ↦ absurd (false≢true (and-right (eqb v u) false y))
-          | inr y ↦ y
-        ]
-
     widened : Has (joined u names K) (with u K)
     widened v x =
         elim (or-elim (eqb v u && names u) (K v) x) [
@@ -120,12 +114,9 @@ name-within u before names K f h e = go (names u) (before u) refl refl
           | inr y ↦ or-right (eqb v u) (K v) y
         ]
 
-    go : (p q : Bool) → names u ≡ p → before u ≡ q
-        → within K (cond (p && not q) (forSome u (cond p (conjunction (scount Rattle.semantics.specs.Formula.equal (name u) 1) f) f)) (cond p (conjunction (scount Rattle.semantics.specs.Formula.equal (name u) 1) f) f)) ≡ true
-    go true true n b =
-        both (h n b) (within-wider (λ v x. narrow true true n v (ap (λ (z : Bool). eqb v u && z || K v) (sym n) ∙ x) (λ r. h n b)) f e)
-    go true false n b = both self (within-wider widened f e)
-    go false q n b = within-wider (λ v x. narrow false q n v (ap (λ (z : Bool). eqb v u && z || K v) (sym n) ∙ x) (λ r. absurd (false≢true r))) f e
+    go : (p : Bool) → names u ≡ p → within K (cond p (forSome u (conjunction (scount equal (name u) 1) f)) f) ≡ true
+    go true n = both (or-left (eqb u u) (K u) (eq-eqb u u refl)) (within-wider widened f e)
+    go false n = within-wider (joined-none u names K n) f e
 
 joined-more : (u : ℕ) (names K : Names) (v : ℕ) → K v ≡ true → joined u names K v ≡ true
 unfolding joined
@@ -158,61 +149,41 @@ joined-all names K v x =
     lower (suc (suc (suc v))) l n = absurd (omega arith)
 
 -- f may name what K has and what is placed
-pub placed-within : (before names K : Names) (f : Formula) → ((u : ℕ) → listed names u ≡ true → before u ≡ true → K u ≡ true) → within (union (listed names) K) f ≡ true → within K (placed before names f) ≡ true
+pub placed-within : (names K : Names) (f : Formula) → within (union (listed names) K) f ≡ true → within K (placed names f) ≡ true
 unfolding placed
-placed-within before names K f h e =
-    let K₁ = joined 0 names K in
-    let K₂ = joined 1 names K₁ in
-    name-within 0 before names K _ (λ n b. h 0 (is-listed 0 (omega arith) n) b)
-    (name-within 1 before names K₁ _ (λ n b. more 0 K 1 (h 1 (is-listed 1 (omega arith) n) b))
-    (name-within 2 before names K₂ f (λ n b. more 1 K₁ 2 (more 0 K 2 (h 2 (is-listed 2 (omega arith) n) b)))
-    (within-wider all f e)))
+placed-within names K f e =
+    name-within 0 names K _
+    (name-within 1 names (joined 0 names K) _ (name-within 2 names (joined 1 names (joined 0 names K)) f (within-wider (joined-all names K) f e)))
+
+-- names that K has already
+pub once-within : (names K : Names) (f : Formula) → Has (listed names) K → within K f ≡ true → within K (once names f) ≡ true
+unfolding once onceName within propositionWithin
+once-within names K f h e =
+    one 0 (λ n. h 0 (listed-intro names 0 (omega arith) n)) _
+    (one 1 (λ n. h 1 (listed-intro names 1 (omega arith) n)) _ (one 2 (λ n. h 2 (listed-intro names 2 (omega arith) n)) f e))
   where
-    is-listed : (u : ℕ) → u < 3 → names u ≡ true → listed names u ≡ true
-    is-listed u l n = listed-intro names u l n
-
-    more : (u : ℕ) (L : Names) (v : ℕ) → L v ≡ true → joined u names L v ≡ true
-    more u L v x = joined-more u names L v x
-
-    all : Has (union (listed names) K) (joined 2 names (joined 1 names (joined 0 names K)))
-    all v x = joined-all names K v x
+    one : (u : ℕ) → (names u ≡ true → K u ≡ true) → (f : Formula) → within K f ≡ true → within K (onceName u names f) ≡ true
+    one u k f e = go (names u) k
+      where
+        go : (p : Bool) → (p ≡ true → K u ≡ true) → within K (cond p (conjunction (scount equal (name u) 1) f) f) ≡ true
+        go true k = both (k refl) e
+        go false k = e
 
 -- ---- clauses
 part-within : (d : Part) (K : Names) → fits d ≡ true → Has (listed (d .names)) K → within K (undrawn (d .formula)) ≡ true
 unfolding fits
 part-within d K w h = undrawn-within K (d .formula) (within-wider h (d .formula) w)
 
--- K's own names, and those of the sets placed
 own : (names K : Names) → Has (listed names) (union (listed names) K)
-unfolding union
-own names K u e = or-left (listed names u) (K u) e
+own names K = union-left (listed names) K
 
-rest : (names K : Names) → Has K (union (listed names) K)
-unfolding union
-rest names K u e = or-right (listed names u) (K u) e
+-- a part whose names are placed that another set lacks, K having that set's
+placed-part : (K names : Names) (d : Part) → fits d ≡ true → Has (listed names) K → within K (placed (without (d .names) names) (undrawn (d .formula))) ≡ true
+placed-part K names d w h = placed-within (without (d .names) names) K _ (part-within d _ w (besides (d .names) names K h))
 
-module _ (K : Names) where
-  -- a part's names placed, those of `before` being in K
-  placed-part : (before : Names) (d : Part) → fits d ≡ true → ((u : ℕ) → listed (d .names) u ≡ true → before u ≡ true → K u ≡ true) → within K (placed before (d .names) (undrawn (d .formula))) ≡ true
-  placed-part before d w h = placed-within before (d .names) K _ h (part-within d _ w (own (d .names) K))
-
-  -- once: all its names are in K
-  once-within : (names : Names) (f : Formula) → Has (listed names) K → within K f ≡ true → within K (once names f) ≡ true
-  unfolding once
-  once-within names f h e = placed-within everyName names K f (λ u l b. h u l) (within-wider (rest names K) f e)
-
-none : (u : ℕ) → {A : Type 0} → noNames u ≡ true → A
-unfolding noNames
-none u e = absurd (false≢true e)
-
--- a name listed in one set and in another is listed in the other
-left-listed : (a b : Names) → Has (listed a) (listed (union a b))
-unfolding union
-left-listed a b u e = listed-too a (union a b) u e (or-left (a u) (b u) (listed-is a u e))
-
-right-listed : (a b : Names) → Has (listed b) (listed (union a b))
-unfolding union
-right-listed a b u e = listed-too b (union a b) u e (or-right (a u) (b u) (listed-is b u e))
+-- a part whose names are all placed
+placed-first : (K : Names) (d : Part) → fits d ≡ true → within K (placed (d .names) (undrawn (d .formula))) ≡ true
+placed-first K d w = placed-within (d .names) K _ (part-within d _ w (own (d .names) K))
 
 unanswered-within : (d₁ d₂ d₃ : Part) → fits d₂ ≡ true → fits d₃ ≡ true
     → within (union (listed (union (d₁ .names) (d₃ .names))) noNames) (unansweredOf (d₁ .names) (undrawn (d₂ .formula)) (d₂ .names) (undrawn (d₃ .formula)) (d₃ .names)) ≡ true
@@ -220,41 +191,42 @@ unfolding unansweredOf shortestOf within extended anywhere
 unanswered-within d₁ d₂ d₃ w₂ w₃ =
     let Θ = union (d₁ .names) (d₃ .names) in
     let K = union (listed Θ) noNames in
-    let third : Has (listed (d₃ .names)) K = λ u e. own Θ noNames u (right-listed (d₁ .names) (d₃ .names) u e) in
+    let third : Has (listed (d₃ .names)) K = λ u e. own Θ noNames u (listed-right (d₁ .names) (d₃ .names) u e) in
     let short = part-within d₃ K w₃ third in
-    both (once-within K (d₃ .names) _ third (both short (both short refl)))
-    (both (placed-part K Θ d₂ w₂ (λ u e b. own Θ noNames u (listed-too (d₂ .names) Θ u e b))) refl)
+    both
+    (once-within (without (d₃ .names) (d₁ .names)) K _ (λ u e. third u (listed-less (d₃ .names) (d₁ .names) u e .0)) (both short (both short refl)))
+    (both (placed-part K Θ d₂ w₂ (own Θ noNames)) refl)
 
 broken-within : (κ : ClauseType) (d₁ d₂ d₃ : Part) → partsFit κ d₁ d₂ d₃ ≡ true
     → within noNames (brokenOf κ (undrawn (d₁ .formula)) (d₁ .names) (undrawn (d₂ .formula)) (d₂ .names) (undrawn (d₃ .formula)) (d₃ .names)) ≡ true
 unfolding partsFit brokenOf within anywhere
-broken-within pref d₁ d₂ d₃ w = both (placed-part noNames noNames d₁ w (λ u e b. b)) refl
+broken-within pref d₁ d₂ d₃ w = both (placed-first noNames d₁ w) refl
 broken-within init d₁ d₂ d₃ w =
     both
-    (placed-within noNames (d₂ .names) noNames _ (λ u e b. b)
+    (placed-within (d₂ .names) noNames _
     (both (part-within d₂ _ (and-right (fits d₁) (fits d₂) w) (own (d₂ .names) noNames))
-    (both (placed-part _ (d₂ .names) d₁ (and-left (fits d₁) (fits d₂) w) (λ u e b. own (d₂ .names) noNames u (listed-too (d₁ .names) (d₂ .names) u e b))) refl)))
+    (both (placed-part _ (d₂ .names) d₁ (and-left (fits d₁) (fits d₂) w) (own (d₂ .names) noNames)) refl)))
     refl
-broken-within anti d₁ d₂ d₃ w = both (placed-part noNames noNames d₁ w (λ u e b. b)) refl
+broken-within anti d₁ d₂ d₃ w = both (placed-first noNames d₁ w) refl
 broken-within implies d₁ d₂ d₃ w =
     both
-    (placed-within noNames (d₁ .names) noNames _ (λ u e b. b)
+    (placed-within (d₁ .names) noNames _
     (both (part-within d₁ _ (and-left (fits d₁) (fits d₂) w) (own (d₁ .names) noNames))
-    (placed-part _ (d₁ .names) d₂ (and-right (fits d₁) (fits d₂) w) (λ u e b. own (d₁ .names) noNames u (listed-too (d₂ .names) (d₁ .names) u e b)))))
+    (placed-part _ (d₁ .names) d₂ (and-right (fits d₁) (fits d₂) w) (own (d₁ .names) noNames))))
     refl
 broken-within follows d₁ d₂ d₃ w =
     let v = and-right (fits d₁) (fits d₂ && fits d₃) w in
     let Θ = union (d₁ .names) (d₃ .names) in
-    let first : Has (listed (d₁ .names)) (union (listed Θ) noNames) = λ u e. own Θ noNames u (left-listed (d₁ .names) (d₃ .names) u e) in
-    placed-within noNames Θ noNames _ (λ u e b. b)
-    (both (once-within _ (d₁ .names) _ first (part-within d₁ _ (and-left (fits d₁) (fits d₂ && fits d₃) w) first))
+    let first : Has (listed (d₁ .names)) (union (listed Θ) noNames) = λ u e. own Θ noNames u (listed-left (d₁ .names) (d₃ .names) u e) in
+    placed-within Θ noNames _
+    (both (once-within (d₁ .names) _ _ first (part-within d₁ _ (and-left (fits d₁) (fits d₂ && fits d₃) w) first))
     (both (unanswered-within d₁ d₂ d₃ (and-left (fits d₂) (fits d₃) v) (and-right (fits d₂) (fits d₃) v)) refl))
 broken-within triggers d₁ d₂ d₃ w =
     let v = and-right (fits d₁) (fits d₂ && fits d₃) w in
     let Θ = union (d₁ .names) (d₃ .names) in
-    let first : Has (listed (d₁ .names)) (union (listed Θ) noNames) = λ u e. own Θ noNames u (left-listed (d₁ .names) (d₃ .names) u e) in
-    placed-within noNames Θ noNames _ (λ u e b. b)
-    (both (both (once-within _ (d₁ .names) _ first (part-within d₁ _ (and-left (fits d₁) (fits d₂ && fits d₃) w) first)) refl)
+    let first : Has (listed (d₁ .names)) (union (listed Θ) noNames) = λ u e. own Θ noNames u (listed-left (d₁ .names) (d₃ .names) u e) in
+    placed-within Θ noNames _
+    (both (both (once-within (d₁ .names) _ _ first (part-within d₁ _ (and-left (fits d₁) (fits d₂ && fits d₃) w) first)) refl)
     (both (unanswered-within d₁ d₂ d₃ (and-left (fits d₂) (fits d₃) v) (and-right (fits d₂) (fits d₃) v)) refl))
 
 join-within : (r : Role) (f : Formula) (cs : List Clause) → allFit cs ≡ true → within noNames f ≡ true → within noNames (joinBroken r f cs) ≡ true

@@ -9,12 +9,11 @@ use borrow.Author.Tests.{ltb-true, lt-ltb}
 use Rattle.semantics.specs.Cycles.{someFrom, someIn}
 use Rattle.semantics.specs.Proposition.{Trace, Marks}
 use Rattle.semantics.specs.Formula.{Formula, chop, conjunction, disjunction, negation, compared, holds}
-use Rattle.semantics.specs.Placement.{Names, listed, Placement, marks}
+use Rattle.semantics.specs.Placement.{Names, union, listed, Placement, marks}
 use Rattle.semantics.specs.Clause.{Part, on, given}
 use Rattle.semantics.specs.Reach.{fits}
 use Rattle.semantics.specs.Translation.{anywhere, extended, nothing, undrawn, placed, shortestOf}
 use Rattle.semantics.proofs.Tests.{and-left, and-right, and-intro, and-true-right}
-use Rattle.semantics.proofs.Names.{union-left}
 use Rattle.semantics.proofs.Cycles.{some-cong, some-same}
 use Rattle.semantics.proofs.Locality.{local}
 use Rattle.semantics.proofs.Undrawn.{undrawn-holds}
@@ -98,14 +97,14 @@ module _ (σ : Trace) {x y : ℕ} (o : x ≤ y) (i : y < length σ) where
             (record { inside = i; inside′ = i; signals = λ n t a b. refl; marks = λ u h. s .alike u (k u h) });
       }
 
-  -- a part whose names that were not placed before are to be placed
-  pub given-is : {K : Names} {μ : Marks} {ν : Placement} (before : Names) (d : Part) → fits d ≡ true
-      → ((u : ℕ) → listed (d .names) u ≡ true → before u ≡ true → K u ≡ true) → Stands K x y μ ν
-      → Says (placed before (d .names) (undrawn (d .formula))) σ μ x y (given before ν d σ x y)
+  -- a part some of whose names are to be placed, the others standing already
+  pub given-is : {K : Names} {μ : Marks} {ν : Placement} (names : Names) (d : Part) → fits d ≡ true
+      → ((u : ℕ) → listed (d .names) u ≡ true → union (listed names) K u ≡ true) → Stands K x y μ ν
+      → Says (placed names (undrawn (d .formula))) σ μ x y (given names ν d σ x y)
   unfolding given
-  given-is {K} {μ} {ν} before d w k s =
+  given-is {K} {μ} {ν} names d w k s =
       record {
         same =
-            placed-holds σ x y i before (d .names) K (undrawn (d .formula)) (λ ν′. on d σ ν′ x y) μ ν k s
-            (λ μ′ ν′ s′. part-is d w (union-left (listed (d .names)) K) s′ .same);
+            placed-holds σ x y i names K (undrawn (d .formula)) (λ ν′. on d σ ν′ x y) μ ν s
+            (λ μ′ ν′ s′. part-is d w k s′ .same);
       }

@@ -4,6 +4,7 @@ pub mod Names
 pub mod Cycles
 pub mod Chains
 pub mod Examples
+pub mod Staying
 pub mod Locality
 pub mod Placement
 pub mod Undrawn

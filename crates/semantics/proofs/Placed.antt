@@ -1,10 +1,10 @@
--- `placed`: columns with exactly one mark each on the interval are the placements over it.
+-- `placed`: columns with exactly one mark each on the interval are the placements over it; `once`: a name with one mark there stands in it.
 use Prim.Native.Nat.{ℕ, zero, suc, _≤_, _<_}
 use native.Mathlib.Omega.{arith}
 use mathlib.Core.Bool.{Bool, true, false, not, cond, _&&_, _||_, true≢false}
 use mathlib.Core.List.{List}
 use mathlib.Core.Logic.{inl, inr}
-use mathlib.Core.Path.{_≡_, refl, sym, ap₂, subst, _∙_}
+use mathlib.Core.Path.{_≡_, refl, sym, ap, subst, _∙_}
 use lib.Dec.{leb, eqb}
 use lib.ListN.{length, getD}
 use borrow.Author.Tests.{leb-true, le-leb, eqb-true, eq-eqb}
@@ -12,7 +12,8 @@ use Rattle.semantics.specs.Cycles.{someIn, countIn, someColumn}
 use Rattle.semantics.specs.Proposition.{Trace, Marks, name, holdsAt}
 use Rattle.semantics.specs.Formula.{Formula, conjunction, scount, equal, forSome, compared, mark, holds}
 use Rattle.semantics.specs.Placement.{Names, union, listed, Placement, moved, placeName, somePlacement}
-use Rattle.semantics.specs.Translation.{onceName, placedName, placed}
+use Rattle.semantics.specs.Inside.{insideName, inside}
+use Rattle.semantics.specs.Translation.{onceName, once, placedName, placed}
 use Rattle.semantics.proofs.Tests.{same, and-intro, and-left, and-right, or-elim}
 use Rattle.semantics.proofs.Placement.{far, not-near}
 use Rattle.semantics.proofs.Cycles.{some-intro, some-elim, One, one-intro, one-elim, column, column-at, column-intro, column-elim}
@@ -112,34 +113,27 @@ module _ (σ : Trace) (x y : ℕ) (i : y < length σ) where
           (next (mark u c μ) (moved u t ν) (stands-marked u names c t s own) ∙ p))
 
   -- one name
-  placed-name : (u : ℕ) (before names K : Names) (f : Formula) (q : Placement → Bool) (μ : Marks) (ν : Placement)
-      → (names u ≡ true → before u ≡ true → K u ≡ true) → Stands K x y μ ν
+  placed-name : (u : ℕ) (names K : Names) (f : Formula) (q : Placement → Bool) (μ : Marks) (ν : Placement) → Stands K x y μ ν
       → ((μ′ : Marks) (ν′ : Placement) → Stands (adding u names K) x y μ′ ν′ → holds f σ μ′ x y ≡ q ν′)
-      → holds (placedName u before names f) σ μ x y ≡ placeName u before names x y ν q
-  unfolding placedName onceName placeName holds holdsAt compared
-  placed-name u before names K f q μ ν k s next = go (names u) (before u) refl refl
+      → holds (placedName u names f) σ μ x y ≡ placeName u names x y ν q
+  unfolding placedName placeName holds holdsAt compared
+  placed-name u names K f q μ ν s next = go (names u) refl
     where
-      go : (a b : Bool) → names u ≡ a → before u ≡ b
-          → holds (cond (a && not b) (forSome u (cond a (conjunction (scount equal (name u) 1) f) f)) (cond a (conjunction (scount equal (name u) 1) f) f)) σ μ x y
-          ≡ cond a (cond b (leb x (ν u) && leb (ν u) y && q ν) (someIn x y (λ t. q (moved u t ν)))) (q ν)
-      go true true e d =
-          ap₂ _&&_ (one-inside x y (ν u) (μ u) (s .alike u (k e d)))
-          (next μ ν (stands-adding u names (λ h. k e d) s))
-      go true false e d = placed-free u names K f q μ ν s next
-      go false b e d = next μ ν (stands-adding u names (λ h. absurd (true≢false (sym h ∙ e))) s)
+      go : (a : Bool) → names u ≡ a
+          → holds (cond a (forSome u (conjunction (scount equal (name u) 1) f)) f) σ μ x y ≡ cond a (someIn x y (λ t. q (moved u t ν))) (q ν)
+      go true e = placed-free u names K f q μ ν s next
+      go false e = next μ ν (stands-adding u names (λ h. absurd (true≢false (sym h ∙ e))) s)
 
-  -- the three names. `K` holds the names that stand already, and the names of the set that were placed before are among them
-  pub placed-holds : (before names K : Names) (f : Formula) (q : Placement → Bool) (μ : Marks) (ν : Placement)
-      → ((u : ℕ) → listed names u ≡ true → before u ≡ true → K u ≡ true) → Stands K x y μ ν
+  -- the three names; `K` holds the names that stand already
+  pub placed-holds : (names K : Names) (f : Formula) (q : Placement → Bool) (μ : Marks) (ν : Placement) → Stands K x y μ ν
       → ((μ′ : Marks) (ν′ : Placement) → Stands (union (listed names) K) x y μ′ ν′ → holds f σ μ′ x y ≡ q ν′)
-      → holds (placed before names f) σ μ x y ≡ somePlacement before names x y ν q
+      → holds (placed names f) σ μ x y ≡ somePlacement names x y ν q
   unfolding placed somePlacement union listed adding
-  placed-holds before names K f q μ ν k s next =
-      placed-name 0 before names K (placedName 1 before names (placedName 2 before names f))
-      (λ ν₀. placeName 1 before names x y ν₀ (λ ν₁. placeName 2 before names x y ν₁ q)) μ ν (k 0) s
-      (λ μ₀ ν₀ s₀. placed-name 1 before names (adding 0 names K) (placedName 2 before names f)
-      (λ ν₁. placeName 2 before names x y ν₁ q) μ₀ ν₀ (k 1) s₀
-      (λ μ₁ ν₁ s₁. placed-name 2 before names (adding 1 names (adding 0 names K)) f q μ₁ ν₁ (k 2) s₁
+  placed-holds names K f q μ ν s next =
+      placed-name 0 names K (placedName 1 names (placedName 2 names f))
+      (λ ν₀. placeName 1 names x y ν₀ (λ ν₁. placeName 2 names x y ν₁ q)) μ ν s
+      (λ μ₀ ν₀ s₀. placed-name 1 names (adding 0 names K) (placedName 2 names f) (λ ν₁. placeName 2 names x y ν₁ q) μ₀ ν₀ s₀
+      (λ μ₁ ν₁ s₁. placed-name 2 names (adding 1 names (adding 0 names K)) f q μ₁ ν₁ s₁
       (λ μ₂ ν₂ s₂. next μ₂ ν₂ (stands-fewer (union (listed names) K) all s₂))))
     where
       all : (u : ℕ) → union (listed names) K u ≡ true → adding 2 names (adding 1 names (adding 0 names K)) u ≡ true
@@ -148,3 +142,27 @@ module _ (σ : Trace) (x y : ℕ) (i : y < length σ) where
       all (suc (suc zero)) h = h
       all (suc (suc (suc u))) h =
           rw (not-near 2 u (omega arith), not-near 1 u (omega arith), not-near 0 u (omega arith)) (rw (far u) at h)
+
+-- a name that stands already has one mark on the interval if it stands in it
+module _ (σ : Trace) {x y : ℕ} {K : Names} {μ : Marks} {ν : Placement} (s : Stands K x y μ ν) (names : Names) where
+  once-name : (u : ℕ) (f : Formula) → (names u ≡ true → K u ≡ true) → holds (onceName u names f) σ μ x y ≡ (insideName u names x y ν && holds f σ μ x y)
+  unfolding onceName insideName holds holdsAt compared
+  once-name u f k = go (names u) k
+    where
+      go : (a : Bool) → (a ≡ true → K u ≡ true)
+          → holds (cond a (conjunction (scount equal (name u) 1) f) f) σ μ x y ≡ ((not a || leb x (ν u) && leb (ν u) y) && holds f σ μ x y)
+      go true k = ap (λ (b : Bool). b && holds f σ μ x y) (one-inside x y (ν u) (μ u) (s .alike u (k refl)))
+      go false k = refl
+
+  pub once-holds : (f : Formula) → ((u : ℕ) → listed names u ≡ true → K u ≡ true) → holds (once names f) σ μ x y ≡ (inside names x y ν && holds f σ μ x y)
+  unfolding once inside listed
+  once-holds f k =
+      once-name 0 (onceName 1 names (onceName 2 names f)) (k 0)
+      ∙ ap (λ (b : Bool). insideName 0 names x y ν && b) (once-name 1 (onceName 2 names f) (k 1))
+      ∙ ap (λ (b : Bool). insideName 0 names x y ν && (insideName 1 names x y ν && b)) (once-name 2 f (k 2))
+      ∙ regroup (insideName 0 names x y ν) (insideName 1 names x y ν) (insideName 2 names x y ν) (holds f σ μ x y)
+    where
+      regroup : (a b c d : Bool) → a && (b && (c && d)) ≡ (a && (b && c) && d)
+      regroup true true c d = refl
+      regroup true false c d = refl
+      regroup false b c d = refl

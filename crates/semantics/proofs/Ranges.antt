@@ -147,15 +147,15 @@ some-and a b e p =
     (and-right (p (w .at)) a (w .ok)))
 
 -- a cycle and a placement are chosen in either order
-pub swap : (before names : Names) (x y : ℕ) (ν : Placement) (b e : ℕ) (q : Placement → ℕ → Bool)
-    → somePlacement before names x y ν (λ ν′. someFrom b e (q ν′)) ≡ someFrom b e (λ j. somePlacement before names x y ν (λ ν′. q ν′ j))
-swap before names x y ν b e q =
-    same (somePlacement before names x y ν (λ ν′. someFrom b e (q ν′))) (someFrom b e (λ j. somePlacement before names x y ν (λ ν′. q ν′ j)))
-    (λ h. let w = placement-elim before names x y ν (λ ν′. someFrom b e (q ν′)) h in
+pub swap : (names : Names) (x y : ℕ) (ν : Placement) (b e : ℕ) (q : Placement → ℕ → Bool)
+    → somePlacement names x y ν (λ ν′. someFrom b e (q ν′)) ≡ someFrom b e (λ j. somePlacement names x y ν (λ ν′. q ν′ j))
+swap names x y ν b e q =
+    same (somePlacement names x y ν (λ ν′. someFrom b e (q ν′))) (someFrom b e (λ j. somePlacement names x y ν (λ ν′. q ν′ j)))
+    (λ h. let w = placement-elim names x y ν (λ ν′. someFrom b e (q ν′)) h in
     let v = some-elim b e (q (w .to)) (w .ok) in
-    some-intro b e (λ j. somePlacement before names x y ν (λ ν′. q ν′ j)) (v .at) (v .low) (v .high)
-    (placement-intro before names x y ν (λ ν′. q ν′ (v .at)) (w .to) (w .agreeing) (v .ok)))
-    (λ h. let v = some-elim b e (λ j. somePlacement before names x y ν (λ ν′. q ν′ j)) h in
-    let w = placement-elim before names x y ν (λ ν′. q ν′ (v .at)) (v .ok) in
-    placement-intro before names x y ν (λ ν′. someFrom b e (q ν′)) (w .to) (w .agreeing)
+    some-intro b e (λ j. somePlacement names x y ν (λ ν′. q ν′ j)) (v .at) (v .low) (v .high)
+    (placement-intro names x y ν (λ ν′. q ν′ (v .at)) (w .to) (w .agreeing) (v .ok)))
+    (λ h. let v = some-elim b e (λ j. somePlacement names x y ν (λ ν′. q ν′ j)) h in
+    let w = placement-elim names x y ν (λ ν′. q ν′ (v .at)) (v .ok) in
+    placement-intro names x y ν (λ ν′. someFrom b e (q ν′)) (w .to) (w .agreeing)
     (some-intro b e (q (w .to)) (v .at) (v .low) (v .high) (w .ok)))

@@ -25,6 +25,10 @@ pub and-right : (a b : Bool) → a && b ≡ true → b ≡ true
 and-right true b p = p
 and-right false b p = absurd (false≢true p)
 
+pub and-assoc : (a b c : Bool) → a && (b && c) ≡ (a && b && c)
+and-assoc true b c = refl
+and-assoc false b c = refl
+
 pub or-left : (a b : Bool) → a ≡ true → a || b ≡ true
 or-left true b p = refl
 or-left false b p = absurd (false≢true p)

@@ -6,4 +6,5 @@ pub mod Placement
 pub mod Clause
 pub mod Verdict
 pub mod Reach
+pub mod Inside
 pub mod Translation

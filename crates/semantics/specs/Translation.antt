@@ -1,12 +1,12 @@
 -- The QDDC formula of a requirement, as a tree. Document 004, section 2.3, gives such a translation; this one differs where document 01,
 -- "Traps in the published text", says that it must. That it means the requirement is not to be believed but proved: proofs/Agreement.antt.
 use Prim.Native.Nat.{ℕ}
-use mathlib.Core.Bool.{not, cond, _&&_}
+use mathlib.Core.Bool.{cond}
 use mathlib.Core.List.{List, [], _∷_}
 use Rattle.semantics.specs.Proposition.{signal, name, negated}
 use Rattle.semantics.specs.Formula.{Formula, point, stretch, whole, unit, chop, conjunction, disjunction, star, slen, scount, sdur, drawn, at, gap, negation, forSome}
 use Rattle.semantics.specs.Formula.{Symbol, low, high, either, lowStretch, highStretch, eitherStretch, steady, below, atMost, equal, atLeast, above}
-use Rattle.semantics.specs.Placement.{Names, noNames, everyName, union}
+use Rattle.semantics.specs.Placement.{Names, union, without}
 use Rattle.semantics.specs.Clause.{ClauseType, pref, init, anti, implies, follows, triggers, Role, assumption, commitment, Clause}
 use Rattle.semantics.specs.Verdict.{hasRole}
 
@@ -57,46 +57,45 @@ undrawn (gap u v least most) = undrawnGap u v least most
 undrawn (negation f) = negation (undrawn f)
 undrawn (forSome u f) = forSome u (undrawn f)
 
--- name u of the set has exactly one mark on the interval, in a column of its own unless it was placed before, and f holds
+-- each name of the set has exactly one mark on the interval, and f holds
 unfoldable pub onceName : ℕ → Names → Formula → Formula
 onceName u names f = cond (names u) (conjunction (scount equal (name u) 1) f) f
 
-unfoldable pub placedName : ℕ → Names → Names → Formula → Formula
-placedName u before names f = cond (names u && not (before u)) (forSome u (onceName u names f)) (onceName u names f)
-
-unfoldable pub placed : Names → Names → Formula → Formula
-placed before names f =
-    placedName 0 before names (placedName 1 before names (placedName 2 before names f))
-
--- the same where all names of the set were placed before
 unfoldable pub once : Names → Formula → Formula
-once names f = placed everyName names f
+once names f = onceName 0 names (onceName 1 names (onceName 2 names f))
+
+-- the same, each in a column of its own
+unfoldable pub placedName : ℕ → Names → Formula → Formula
+placedName u names f = cond (names u) (forSome u (conjunction (scount equal (name u) 1) f)) f
+
+unfoldable pub placed : Names → Formula → Formula
+placed names f = placedName 0 names (placedName 1 names (placedName 2 names f))
 
 -- f, and on no shorter interval with the same beginning
 unfoldable pub shortestOf : Formula → Formula
 shortestOf f = conjunction f (negation (chop f extended))
 
--- D3 is Ξ with its names inside, and D2 on no interval with the same beginning up to there
+-- D3 is Ξ with the names inside that D1 lacks, and D2 on no interval with the same beginning up to there
 unfoldable pub unansweredOf : Names → Formula → Names → Formula → Names → Formula
 unansweredOf Θ₁ f₂ Θ₂ f₃ Θ₃ =
-    conjunction (once Θ₃ (shortestOf f₃)) (negation (chop (placed (union Θ₁ Θ₃) Θ₂ f₂) anywhere))
+    conjunction (once (without Θ₃ Θ₁) (shortestOf f₃)) (negation (chop (placed (without Θ₂ (union Θ₁ Θ₃)) f₂) anywhere))
 
 -- "the clause is broken", of the whole trace. In follows and triggers the names of D1 and D3 have one mark each from i to the end of the
--- trace, and one on their own part's interval: two marks in one column cannot pass for one name.
+-- trace, all that a later part can see, and one on the interval of the part that lists them first: two marks in one column cannot pass for
+-- one name.
 unfoldable pub brokenOf : ClauseType → Formula → Names → Formula → Names → Formula → Names → Formula
-brokenOf pref f₁ Θ₁ f₂ Θ₂ f₃ Θ₃ = chop (negation (placed noNames Θ₁ f₁)) anywhere
+brokenOf pref f₁ Θ₁ f₂ Θ₂ f₃ Θ₃ = chop (negation (placed Θ₁ f₁)) anywhere
 brokenOf init f₁ Θ₁ f₂ Θ₂ f₃ Θ₃ =
-    chop (placed noNames Θ₂ (conjunction f₂ (negation (chop (placed Θ₂ Θ₁ f₁) anywhere)))) anywhere
-brokenOf anti f₁ Θ₁ f₂ Θ₂ f₃ Θ₃ = chop anywhere (chop (placed noNames Θ₁ f₁) anywhere)
+    chop (placed Θ₂ (conjunction f₂ (negation (chop (placed (without Θ₁ Θ₂) f₁) anywhere)))) anywhere
+brokenOf anti f₁ Θ₁ f₂ Θ₂ f₃ Θ₃ = chop anywhere (chop (placed Θ₁ f₁) anywhere)
 brokenOf implies f₁ Θ₁ f₂ Θ₂ f₃ Θ₃ =
-    chop anywhere (chop (placed noNames Θ₁ (conjunction f₁ (negation (placed Θ₁ Θ₂ f₂)))) anywhere)
+    chop anywhere (chop (placed Θ₁ (conjunction f₁ (negation (placed (without Θ₂ Θ₁) f₂)))) anywhere)
 brokenOf follows f₁ Θ₁ f₂ Θ₂ f₃ Θ₃ =
     chop anywhere
-    (placed noNames (union Θ₁ Θ₃) (chop (once Θ₁ f₁) (chop (unansweredOf Θ₁ f₂ Θ₂ f₃ Θ₃) anywhere)))
+    (placed (union Θ₁ Θ₃) (chop (once Θ₁ f₁) (chop (unansweredOf Θ₁ f₂ Θ₂ f₃ Θ₃) anywhere)))
 brokenOf triggers f₁ Θ₁ f₂ Θ₂ f₃ Θ₃ =
     chop anywhere
-    (placed noNames (union Θ₁ Θ₃)
-    (conjunction (chop (once Θ₁ f₁) anywhere) (chop (unansweredOf Θ₁ f₂ Θ₂ f₃ Θ₃) anywhere)))
+    (placed (union Θ₁ Θ₃) (conjunction (chop (once Θ₁ f₁) anywhere) (chop (unansweredOf Θ₁ f₂ Θ₂ f₃ Θ₃) anywhere)))
 
 unfoldable pub brokenClause : Clause → Formula
 brokenClause c =

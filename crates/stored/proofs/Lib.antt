@@ -4,6 +4,7 @@ pub mod Made
 pub mod Entries
 pub mod Tree
 pub mod Reach
+pub mod NameSets
 pub mod Accepted
 pub mod Answer
 pub mod Written

@@ -241,7 +241,7 @@ impl Checker {
         }
     }
 
-    /// Row x of a part, only the intervals that hold the cycles of the part's names.
+    /// Row x of a part, only the intervals that hold the cycles of the names.
     fn inside(&self, row: u64, names: u8, x: usize) -> u64 {
         let mut row = row;
         for u in 0..3 {
@@ -302,7 +302,9 @@ impl Checker {
         false
     }
 
-    fn answers(&mut self, root: usize, names: u8, inner: &[usize]) -> Rows {
+    /// The answers over the placements of the names that no part before lists.
+    fn answers(&mut self, root: usize, inner: &[usize]) -> Rows {
+        let names = inner.iter().fold(0, |names, u| names | 1 << u);
         let mut answers = [0; 64];
         self.start(inner);
         loop {
@@ -320,7 +322,7 @@ impl Checker {
         let cycles = self.cycles;
         match clause_type {
             1 => {
-                let missing = !self.answers(roots[0], masks[0], inner)[0] & below_bit(cycles);
+                let missing = !self.answers(roots[0], inner)[0] & below_bit(cycles);
                 if missing != 0 {
                     *best = (*best).min(65 * missing.trailing_zeros() as usize);
                 }
@@ -328,7 +330,7 @@ impl Checker {
             2 => {
                 let premise = self.inside(self.tables[roots[1]][0], masks[1], 0);
                 if premise != 0 {
-                    let answered = self.answers(roots[0], masks[0], inner)[0];
+                    let answered = self.answers(roots[0], inner)[0];
                     let early = premise & below_bit(answered.trailing_zeros() as usize);
                     if early != 0 {
                         *best = (*best).min(65 * early.trailing_zeros() as usize);
@@ -343,11 +345,8 @@ impl Checker {
                 if first.iter().all(|&row| row == 0) {
                     return;
                 }
-                let answers = if clause_type == 3 {
-                    [0; 64]
-                } else {
-                    self.answers(roots[1], masks[1], inner)
-                };
+                let answers =
+                    if clause_type == 3 { [0; 64] } else { self.answers(roots[1], inner) };
                 for i in 0..cycles {
                     let open = first[i] & !answers[i];
                     if open != 0 {
@@ -368,12 +367,12 @@ impl Checker {
         for x in 0..cycles {
             first[x] = self.inside(self.tables[roots[0]][x], masks[0], x);
             let row = self.tables[roots[2]][x];
-            third[x] = self.inside(row & row.wrapping_neg(), masks[2], x);
+            third[x] = self.inside(row & row.wrapping_neg(), masks[2] & !masks[0], x);
         }
         if first.iter().all(|&row| row == 0) || third.iter().all(|&row| row == 0) {
             return;
         }
-        let answers = self.answers(roots[1], masks[1], inner);
+        let answers = self.answers(roots[1], inner);
         for i in 0..cycles {
             let mut ends = first[i];
             while ends != 0 {

@@ -202,14 +202,7 @@ pub fn corners() -> Vec<Case> {
     let both = Trace::drawn(&["0101", "0010"]);
     cases.push(Case::new("init holds where p came first", &init, &both, Holds));
 
-    // init with a shared name: the answer's placement is over its own interval, [0,k].
-    let mut own = Sheet::new(1, 1);
-    let (any, mark) = (own.anywhere(), own.mark(0));
-    let ends_in_u = own.chop(any, mark);
-    let point = own.slen(Compare::Equal, 0);
-    own.init(Commitment, Part(point, 1), Part(ends_in_u, 1));
     let three = Trace::drawn(&["000"]);
-    cases.push(Case::new("a mark outside the answer's interval", &own, &three, Broken(0, 0, 1, 1)));
 
     // triggers: k may be before j.
     let mut early = Sheet::new(1, 0);

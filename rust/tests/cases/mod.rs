@@ -1,10 +1,11 @@
 //! Sheets and traces with the verdict that they are to have: the examples and traps of document 01
-//! and the specifications of document 004; and typed sheets with their answers. They are run on the
-//! reference and on the library.
+//! and the specifications of document 004; names that stay (request 4); and typed sheets with their
+//! answers. They are run on the reference and on the library.
 
 #![allow(dead_code)]
 
 pub mod examples;
+pub mod names;
 pub mod paper;
 pub mod texts;
 

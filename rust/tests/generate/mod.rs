@@ -245,6 +245,24 @@ pub fn marked(random: &mut Random, shape: Shape) -> Sheet {
     sheet
 }
 
+/// A sheet of one commitment whose parts list one another's names, most of them short, so that names
+/// lie before, in and after the intervals of later parts.
+pub fn shared(random: &mut Random, shape: Shape) -> Sheet {
+    let mut sheet = Sheet::new(shape.signals as u8, shape.names as u8);
+    let listed = random.between(1, (1 << shape.names) - 1) as u8;
+    let parts = [0; 3].map(|_| {
+        let mut root = sheet.node(24, random.pick(&[1, 2, 2, 3]), 0, random.below(3) as u16);
+        if random.one_in(2) {
+            let marks = about_marks(random, &mut sheet, shape);
+            root = sheet.node(random.pick(&[20, 21, 21, 21]), 0, root.0, marks.0);
+        }
+        Part(root, reach(&sheet, root) | listed)
+    });
+    let clause_type = random.pick(&[2, 2, 4, 5, 5, 5, 6, 6, 6]);
+    clause(&mut sheet, clause_type, Commitment, parts);
+    sheet
+}
+
 fn about_marks(random: &mut Random, sheet: &mut Sheet, shape: Shape) -> Node {
     let number = |random: &mut Random| random.below(shape.numbers) as u16;
     if shape.names == 0 || random.one_in(4) {

@@ -1,4 +1,5 @@
-//! Placements, the six clause types, the requirement and the verdict.
+//! Placements, the six clause types, the requirement and the verdict. A name is placed inside the
+//! interval of the first part that lists it and keeps that cycle in later parts (request 4).
 
 use super::meaning::{Marks, Meaning};
 use super::stored::{Clause, Sheet};
@@ -14,25 +15,12 @@ struct Part {
 
 impl Part {
     fn has(self, name: usize) -> bool {
-        self.names >> name & 1 == 1
+        has(self.names, name)
     }
 }
 
-/// Every placement of the part's names over [x,y].
-fn placements(part: Part, x: usize, y: usize) -> Vec<Placement> {
-    let mut all: Vec<Placement> = vec![[None; 3]];
-    for name in (0..3).filter(|&name| part.has(name)) {
-        let mut longer = vec![];
-        for placement in all {
-            for cycle in x..=y {
-                let mut with_name = placement;
-                with_name[name] = Some(cycle);
-                longer.push(with_name);
-            }
-        }
-        all = longer;
-    }
-    all
+fn has(names: u8, name: usize) -> bool {
+    names >> name & 1 == 1
 }
 
 /// Whether names that both place have the same cycle.
@@ -47,17 +35,48 @@ fn marks(placement: &Placement) -> Marks {
     placement.map(|cycle| cycle.map_or(0, |t| 1 << t))
 }
 
+/// Where a name lies in a part that isn't the first to list it.
+#[derive(Clone, Copy, PartialEq, Eq)]
+pub enum Rule {
+    /// Where the first part has it.
+    Stays,
+    /// There, and inside that part's interval: the rule before request 4, which tells the sheets on
+    /// which the request decides.
+    Inside,
+}
+
 pub struct Clauses<'a> {
     meaning: Meaning<'a>,
     cycles: usize,
+    rule: Rule,
 }
 
 /// The three cycles of a broken interval.
 pub type Cycles = (usize, usize, usize);
 
 impl<'a> Clauses<'a> {
-    pub fn new(sheet: &'a Sheet, trace: &'a [u16]) -> Self {
-        Clauses { meaning: Meaning::new(&sheet.nodes, trace), cycles: trace.len() }
+    pub fn new(sheet: &'a Sheet, trace: &'a [u16], rule: Rule) -> Self {
+        Clauses { meaning: Meaning::new(&sheet.nodes, trace), cycles: trace.len(), rule }
+    }
+
+    /// Every placement of the part's names where it is asked on [x,y]: a name lies in [x,y], or
+    /// anywhere in the trace if a part before lists it.
+    fn placements(&self, part: Part, before: u8, x: usize, y: usize) -> Vec<Placement> {
+        let mut all: Vec<Placement> = vec![[None; 3]];
+        for name in (0..3).filter(|&name| part.has(name)) {
+            let stays = has(before, name) && self.rule == Rule::Stays;
+            let cycles = if stays { 0..=self.cycles - 1 } else { x..=y };
+            let mut longer = vec![];
+            for placement in all {
+                for cycle in cycles.clone() {
+                    let mut with_name = placement;
+                    with_name[name] = Some(cycle);
+                    longer.push(with_name);
+                }
+            }
+            all = longer;
+        }
+        all
     }
 
     fn on(&self, part: Part, placement: &Placement, x: usize, y: usize) -> bool {
@@ -69,11 +88,13 @@ impl<'a> Clauses<'a> {
         self.on(part, placement, x, y) && (x..y).all(|z| !self.on(part, placement, x, z))
     }
 
-    /// Whether some placement of the part's names over [x,y] that agrees with each of those given
-    /// gives the part on [x,y].
-    fn given(&self, part: Part, agreeing: &[&Placement], x: usize, y: usize) -> bool {
-        placements(part, x, y).iter().any(|placement| {
-            agreeing.iter().all(|other| agree(placement, other)) && self.on(part, placement, x, y)
+    /// Whether some placement of the part's names that agrees with those of the parts before gives
+    /// the part on [x,y].
+    fn given(&self, part: Part, earlier: &[(Part, &Placement)], x: usize, y: usize) -> bool {
+        let before = earlier.iter().fold(0, |names, (part, _)| names | part.names);
+        self.placements(part, before, x, y).iter().any(|placement| {
+            earlier.iter().all(|(_, other)| agree(placement, other))
+                && self.on(part, placement, x, y)
         })
     }
 
@@ -112,8 +133,8 @@ impl<'a> Clauses<'a> {
     }
 
     fn init_breaks(&self, d1: Part, d2: Part, j: usize) -> bool {
-        placements(d2, 0, j).iter().any(|placement| {
-            self.on(d2, placement, 0, j) && !(0..=j).any(|k| self.given(d1, &[placement], 0, k))
+        self.placements(d2, 0, 0, j).iter().any(|two| {
+            self.on(d2, two, 0, j) && !(0..=j).any(|k| self.given(d1, &[(d2, two)], 0, k))
         })
     }
 
@@ -122,12 +143,12 @@ impl<'a> Clauses<'a> {
     }
 
     fn implies_breaks(&self, d1: Part, d2: Part, i: usize, j: usize) -> bool {
-        placements(d1, i, j)
+        self.placements(d1, 0, i, j)
             .iter()
-            .any(|placement| self.on(d1, placement, i, j) && !self.given(d2, &[placement], i, j))
+            .any(|one| self.on(d1, one, i, j) && !self.given(d2, &[(d1, one)], i, j))
     }
 
-    /// follows, where x is j, and triggers, where x is i.
+    /// follows, where x is j, and triggers, where x is i; names are placed in the order D1, D3, D2.
     #[allow(clippy::too_many_arguments)]
     fn limited_breaks(
         &self,
@@ -139,12 +160,12 @@ impl<'a> Clauses<'a> {
         x: usize,
         k: usize,
     ) -> bool {
-        placements(d1, i, j).iter().any(|one| {
+        self.placements(d1, 0, i, j).iter().any(|one| {
             self.on(d1, one, i, j)
-                && placements(d3, x, k).iter().any(|three| {
+                && self.placements(d3, d1.names, x, k).iter().any(|three| {
                     agree(one, three)
                         && self.shortest(d3, three, x, k)
-                        && !(x..=k).any(|l| self.given(d2, &[one, three], x, l))
+                        && !(x..=k).any(|l| self.given(d2, &[(d1, one), (d3, three)], x, l))
                 })
         })
     }
@@ -156,7 +177,7 @@ fn doubled((i, j): (usize, usize)) -> Cycles {
 
 /// Whether some assumption fails or every commitment holds.
 pub fn requirement(sheet: &Sheet, trace: &[u16]) -> bool {
-    let clauses = Clauses::new(sheet, trace);
+    let clauses = Clauses::new(sheet, trace, Rule::Stays);
     let holds = |clause: &Clause| clauses.first_broken(clause).is_none();
     let assumptions = || sheet.clauses.iter().filter(|clause| clause.role == 0);
     let commitments = || sheet.clauses.iter().filter(|clause| clause.role == 1);
@@ -171,7 +192,11 @@ pub enum Verdict {
 }
 
 pub fn verdict(sheet: &Sheet, trace: &[u16]) -> Verdict {
-    let clauses = Clauses::new(sheet, trace);
+    verdict_by(Rule::Stays, sheet, trace)
+}
+
+pub fn verdict_by(rule: Rule, sheet: &Sheet, trace: &[u16]) -> Verdict {
+    let clauses = Clauses::new(sheet, trace, rule);
     for (number, clause) in sheet.clauses.iter().enumerate() {
         if clause.role == 0 && clauses.first_broken(clause).is_some() {
             return Verdict::Excused(number);

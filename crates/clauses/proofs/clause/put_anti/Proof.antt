@@ -14,7 +14,7 @@ unfolding brokenOf anywhere
 returns c =
     let c2 = c .before .before .before .before .before .before in
     let c1 = c2 .before .before .before .before in
-    chopped everywhere (chopped (c1 .put-fresh .ensures) everywhere (c2 .put-chop .ensures)) (c .before .before .put-chop2 .ensures)
+    chopped everywhere (chopped (c1 .put-placed .ensures) everywhere (c2 .put-chop .ensures)) (c .before .before .put-chop2 .ensures)
 
 pub put-anti-spec : {M : Type 1} → statement M
 put-anti-spec = tie.close (tie.spec free free free same-length returns)

@@ -3,12 +3,9 @@ use borrow.Author.Needs.{needs}
 use Rattle.semantics.specs.Translation.{anywhere, brokenOf}
 use Rattle.plans.specs.Plan.{everywhere, chopped}
 use Rattle.plans.proofs.Calls.{free}
-use Rattle.clauses.proofs.Names.{joined-union, placed-over}
+use Rattle.clauses.proofs.Names.{placed-over}
 use Rattle.clauses.proofs.clause.put_follows.Statement.{statement}
 use Rattle.clauses.proofs.clause.put_follows.Tie as tie
-
-put-unanswered-requires : tie.Need-put-unanswered-requires
-put-unanswered-requires c κs = search needs
 
 same-length : tie.Need-same-length
 same-length c = search needs
@@ -22,11 +19,10 @@ returns c =
     let c2 = c3 .before .before .before .before in
     let c1 = c2 .before .before .before .before in
     let c0 = c1 .before .before in
-    let start = c0 .before .before in
     let later = chopped (c2 .put-unanswered .ensures) everywhere (c3 .put-chop .ensures) in
     let both = chopped (c1 .put-once .ensures) later (c4 .put-chop2 .ensures) in
-    let placed = rw (joined-union (start .pre .0) (start .pre .1) (c0 .both .ensures)) at (c5 .put-fresh .ensures) in
-    chopped everywhere (placed-over _ _ both placed) (c .before .before .put-chop3 .ensures)
+    let placed = rw (c0 .both .ensures) at (c5 .put-placed .ensures) in
+    chopped everywhere (placed-over _ both placed) (c .before .before .put-chop3 .ensures)
 
 pub put-follows-spec : {M : Type 1} → statement M
-put-follows-spec = tie.close (tie.spec free free put-unanswered-requires free free free free same-length returns)
+put-follows-spec = tie.close (tie.spec free free free free free free free same-length returns)

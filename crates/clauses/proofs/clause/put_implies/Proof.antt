@@ -18,10 +18,11 @@ returns c =
     let c3 = c4 .before .before .before .before in
     let c2 = c3 .before .before .before .before in
     let c1 = c2 .before .before .before .before in
-    let missed = denied (c1 .put-placed .ensures) (c2 .put-not .ensures) in
+    let given = rw (c1 .before .before .besides .ensures) at (c1 .put-placed .ensures) in
+    let missed = denied given (c2 .put-not .ensures) in
     let unanswered = conjoined there missed (c3 .put-and .ensures) in
-    let started = chopped (placed-over _ _ unanswered (c4 .put-fresh .ensures)) everywhere (c5 .put-chop .ensures) in
+    let started = chopped (placed-over _ unanswered (c4 .put-placed2 .ensures)) everywhere (c5 .put-chop .ensures) in
     chopped everywhere started (c .before .before .put-chop2 .ensures)
 
 pub put-implies-spec : {M : Type 1} → statement M
-put-implies-spec = tie.close (tie.spec free free free free free free same-length returns)
+put-implies-spec = tie.close (tie.spec free free free free free free free same-length returns)

@@ -18,9 +18,10 @@ returns c =
     let c3 = c4 .before .before .before .before in
     let c2 = c3 .before .before .before .before in
     let c1 = c2 .before .before .before .before in
-    let missed = denied (chopped (c1 .put-placed .ensures) everywhere (c2 .put-chop .ensures)) (c3 .put-not .ensures) in
+    let given = rw (c1 .before .before .besides .ensures) at (c1 .put-placed .ensures) in
+    let missed = denied (chopped given everywhere (c2 .put-chop .ensures)) (c3 .put-not .ensures) in
     let unanswered = conjoined there missed (c4 .put-and .ensures) in
-    chopped (placed-over _ _ unanswered (c5 .put-fresh .ensures)) everywhere (c .before .before .put-chop2 .ensures)
+    chopped (placed-over _ unanswered (c5 .put-placed2 .ensures)) everywhere (c .before .before .put-chop2 .ensures)
 
 pub put-init-spec : {M : Type 1} → statement M
-put-init-spec = tie.close (tie.spec free free free free free free same-length returns)
+put-init-spec = tie.close (tie.spec free free free free free free free same-length returns)

@@ -14,7 +14,7 @@ unfolding brokenOf anywhere
 returns c =
     let c2 = c .before .before .before .before .before .before in
     let c1 = c2 .before .before .before .before in
-    chopped (denied (c1 .put-fresh .ensures) (c2 .put-not .ensures)) everywhere (c .before .before .put-chop .ensures)
+    chopped (denied (c1 .put-placed .ensures) (c2 .put-not .ensures)) everywhere (c .before .before .put-chop .ensures)
 
 pub put-pref-spec : {M : Type 1} → statement M
 put-pref-spec = tie.close (tie.spec free free free same-length returns)

@@ -28,18 +28,12 @@ returns-3 : tie.Need-returns-3
 unfolding typeOf brokenOf
 returns-3 c = rw (c .before .before .before .before .if3 .taken) (c .before .before .put-implies .ensures)
 
-put-follows-requires : tie.Need-put-follows-requires
-put-follows-requires c κs = search needs
-
 same-length-4 : tie.Need-same-length-4
 same-length-4 c = search needs
 
 returns-4 : tie.Need-returns-4
 unfolding typeOf brokenOf
 returns-4 c = rw (c .before .before .before .before .if4 .taken) (c .before .before .put-follows .ensures)
-
-put-triggers-requires : tie.Need-put-triggers-requires
-put-triggers-requires c κs = search needs
 
 same-length-5 : tie.Need-same-length-5
 same-length-5 c = search needs
@@ -67,6 +61,6 @@ put-typed-spec =
     free same-length returns
     free same-length-2 returns-2
     free same-length-3 returns-3
-    put-follows-requires same-length-4 returns-4
-    put-triggers-requires same-length-5 returns-5
+    free same-length-4 returns-4
+    free same-length-5 returns-5
     free same-length-6 returns-6)

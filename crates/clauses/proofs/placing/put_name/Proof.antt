@@ -3,7 +3,7 @@ use mathlib.Core.Path.{sym, _∙_}
 use borrow.Author.Needs.{needs}
 use borrow.Author.Tests.{not-true, not-false}
 use native.Mathlib.Omega.{arith}
-use Rattle.semantics.specs.Translation.{onceName, placedName}
+use Rattle.semantics.specs.Translation.{placedName}
 use Rattle.plans.specs.Plan.{there, marked, conjoined, columned}
 use Rattle.plans.proofs.Calls.{free}
 use Rattle.clauses.proofs.placing.put_name.Statement.{statement}
@@ -13,7 +13,7 @@ has-name-requires : tie.Need-has-name-requires
 has-name-requires c κs = omega arith
 
 returns : tie.Need-returns
-unfolding placedName onceName
+unfolding placedName
 returns c = rw (sym (c .before .has-name .ensures) ∙ not-true _ (c .if1 .taken)) there
 
 mul-put-and : tie.Need-mul-put-and
@@ -22,33 +22,17 @@ mul-put-and c = omega arith
 add-put-and : tie.Need-add-put-and
 add-put-and c = omega arith
 
-has-name-requires-2 : tie.Need-has-name-requires-2
-has-name-requires-2 c κs = omega arith
-
 same-length : tie.Need-same-length
 same-length c = search needs
 
 returns-2 : tie.Need-returns-2
-unfolding placedName onceName
+unfolding placedName
 returns-2 c =
-    let c1 = c .before .before .before .before in
-    let c0 = c1 .before .before in
-    rw (sym (c0 .before .has-name .ensures) ∙ not-false _ (c0 .if1 .left), sym (c .before .has-name2 .ensures) ∙ c .if2 .taken)
-    (conjoined marked there (c1 .put-and .ensures))
-
-same-length-2 : tie.Need-same-length-2
-same-length-2 c = search needs
-
-returns-3 : tie.Need-returns-3
-unfolding placedName onceName
-returns-3 c =
-    let c2 = c .before .before .before .before in
+    let c2 = c .before .before in
     let c1 = c2 .before .before .before .before in
     let c0 = c1 .before .before in
-    rw (sym (c0 .before .has-name .ensures) ∙ not-false _ (c0 .if1 .left), sym (c2 .before .has-name2 .ensures) ∙ c2 .if2 .left)
-    (columned (conjoined marked there (c1 .put-and .ensures)) (c .before .before .put-some .ensures))
+    rw (sym (c0 .before .has-name .ensures) ∙ not-false _ (c0 .if1 .left))
+    (columned (conjoined marked there (c1 .put-and .ensures)) (c2 .put-some .ensures))
 
 pub put-name-spec : {M : Type 1} → statement M
-put-name-spec =
-    tie.close
-    (tie.spec has-name-requires returns mul-put-and add-put-and free has-name-requires-2 same-length returns-2 free same-length-2 returns-3)
+put-name-spec = tie.close (tie.spec has-name-requires returns mul-put-and add-put-and free free same-length returns-2)

@@ -23,8 +23,8 @@ unfolding placed
 returns c =
     let c2 = c .before .before .before .before .before .before in
     let c1 = c2 .before .before .before .before in
-    let second = name-over-node 1 _ _ (c1 .put-name .ensures) (c2 .put-name2 .ensures) in
-    name-over-node 0 _ _ second (c .before .before .put-name3 .ensures)
+    let second = name-over-node 1 _ (c1 .put-name .ensures) (c2 .put-name2 .ensures) in
+    name-over-node 0 _ second (c .before .before .put-name3 .ensures)
 
 pub put-placed-spec : {M : Type 1} → statement M
 put-placed-spec = tie.close (tie.spec put-name-requires put-name-requires-2 put-name-requires-3 same-length returns)

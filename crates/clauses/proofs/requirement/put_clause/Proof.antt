@@ -5,9 +5,6 @@ use Rattle.clauses.specs.Clauses.{brokenIn}
 use Rattle.clauses.proofs.requirement.put_clause.Statement.{statement}
 use Rattle.clauses.proofs.requirement.put_clause.Tie as tie
 
-put-typed-requires : tie.Need-put-typed-requires
-put-typed-requires c κs = search needs
-
 same-length : tie.Need-same-length
 same-length c = search needs
 
@@ -18,4 +15,4 @@ returns c =
     rw (d .before .before .entry-of .ensures, d .before .entry-of2 .ensures, d .entry-of3 .ensures) at (c .before .before .put-typed .ensures)
 
 pub put-clause-spec : {M : Type 1} → statement M
-put-clause-spec = tie.close (tie.spec free free free put-typed-requires same-length returns)
+put-clause-spec = tie.close (tie.spec free free free free same-length returns)

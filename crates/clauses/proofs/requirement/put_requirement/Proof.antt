@@ -4,7 +4,7 @@ use mathlib.Core.Path.{_≡_}
 use native.Mathlib.Omega.{arith}
 use Rattle.stored.specs.Node.{nodeAt}
 use Rattle.stored.specs.Sheet.{headerOf}
-use Rattle.stored.proofs.Accepted.{ClauseKept, mask-small}
+use Rattle.stored.proofs.Accepted.{ClauseKept}
 use Rattle.plans.specs.Emission.{count, Ready}
 use Rattle.plans.proofs.Calls.{free}
 use Rattle.plans.proofs.Steps.{ready-kept}
@@ -46,12 +46,6 @@ stored-at-requires c κs = omega (arith, c .before .before .before .before .befo
 
 slice-aggregate-put-clause : tie.Need-slice-aggregate-put-clause Inv-loop μ-loop
 slice-aggregate-put-clause c = omega arith
-
-put-clause-requires : tie.Need-put-clause-requires Inv-loop μ-loop
-put-clause-requires c κs =
-    let d = c .before .before in
-    let few = d .before .before .before .before .before .before .before .before .before .before .pre .0 .good .few-names in
-    (mask-small _ _ few (read d .part1 .small), mask-small _ _ few (read d .part3 .small))
 
 mul-side : tie.Need-mul-side Inv-loop μ-loop
 mul-side c = omega (arith, read (c .before .before .before .before .before) .role-most)
@@ -121,7 +115,7 @@ put-requirement-spec =
     loop-holds
     stored-at-requires
     slice-aggregate-put-clause
-    put-clause-requires
+    free
     mul-side
     array-read-side
     free

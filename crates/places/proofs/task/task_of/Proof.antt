@@ -43,13 +43,15 @@ choose-requires-9 c κs = search needs
 returns : tie.Need-returns
 unfolding taskOf
 returns c =
-    let d = c .before .before .before .before .before .before .before .before .before .before .before .args .d in
-    let late = c .before .before .choose7 .ensures in
-    let inner = c .before .choose8 .ensures ∙ ap (λ (x : ℕ). cond (eqb (d .«clause_type») 2) (d .mask2) x) late in
-    let quantified = c .choose9 .ensures ∙ ap (λ (x : ℕ). cond (eqb (d .«clause_type») 1) 0 x) inner in
-    let replies = c .before .before .before .before .choose6 .ensures in
-    same-task (c .before .before .before .before .before .before .before .before .before .before .type-numbered .ensures) (c .before .before .before .before .before .before .before .before .before .choose .ensures) (c .before .before .before .before .before .before .before .before .choose2 .ensures) (c .before .before .before .before .before .before .before .choose3 .ensures) (c .before .before .before .before .before .before .choose4 .ensures)
-    (c .before .before .before .before .before .choose5 .ensures) replies quantified (ap₂ (λ (x y : ℕ). bitAnd x (2 ^ 64 - 1 - y)) replies quantified)
+    let c6 = c .before .before .before in
+    let c5 = c6 .before .before in
+    let c3 = c5 .before .before .before .before in
+    let d = c3 .before .before .before .before .args .d in
+    let inner = c .before .before .choose7 .ensures ∙ ap (λ (x : ℕ). cond (eqb (d .«clause_type») 2) (d .mask2) x) (c6 .choose6 .ensures) in
+    let quantified = c .before .choose8 .ensures ∙ ap (λ (x : ℕ). cond (eqb (d .«clause_type») 1) 0 x) inner in
+    same-task (c3 .before .before .before .type-numbered .ensures) (c3 .before .before .choose .ensures) (c3 .before .choose2 .ensures)
+    (c3 .choose3 .ensures) (c5 .before .choose4 .ensures) (c5 .choose5 .ensures)
+    (ap₂ (λ (x y : ℕ). bitAnd x (2 ^ 64 - 1 - y)) (c .choose9 .ensures) quantified) quantified
 
 pub task-of-spec : {M : Type 1} → statement M
 task-of-spec =
