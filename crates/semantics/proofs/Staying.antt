@@ -7,7 +7,7 @@ use Rattle.semantics.specs.Cycles.{someBelow, someFrom, firstBelow, coun
 use Rattle.semantics.specs.Proposition.{Trace, signal, name, negated, bit, signalAt, holdsAt}
 use Rattle.semantics.specs.Formula.{holds, compared, point, whole, chop, conjunction, slen, scount, at, equal, atLeast}
 use Rattle.semantics.specs.Placement.{Names, noNames, union, without, unplaced, marks, moved, placeName, somePlacement}
-use Rattle.semantics.specs.Clause.{Part, Clause, triggers, commitment, on, given, shortest, unanswered, breaksAt, breaks, fails}
+use Rattle.semantics.specs.Clause.{Clause, triggers, commitment, on, given, shortest, unanswered, breaksAt, breaks, fails}
 use Rattle.semantics.specs.Verdict.{Holds, Broken, sameRole, hasRole, failsAs, firstPlace, excusedOr, brokenOr, verdict}
 
 unfoldable pub onlyName : Names
