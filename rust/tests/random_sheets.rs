@@ -18,8 +18,9 @@ const DRAWS: [Draw; 3] = [generate::plain, generate::drawn, generate::marked];
 /// Columns of all names together that are still enumerated: cycles · names.
 const COLUMNS: usize = 12;
 
-/// One check, tables of some nodes and, where the columns can be enumerated, the formula.
-fn one(random: &mut Random, tally: &mut Tally, sheet: &Sheet, cycles: usize) {
+/// One check, tables of some nodes and, where the columns can be enumerated, the formula. Gives the
+/// cycles of the trace that was drawn for them.
+fn one(random: &mut Random, tally: &mut Tally, sheet: &Sheet, cycles: usize) -> Vec<u16> {
     let bytes = sheet.bytes();
     let trace = generate::trace(random, sheet.signals as usize, cycles);
     let trace_bytes = trace.bytes();
@@ -49,6 +50,12 @@ fn one(random: &mut Random, tally: &mut Tally, sheet: &Sheet, cycles: usize) {
     if cycles * sheet.names as usize <= COLUMNS {
         tally.evaluated(translated.agrees(&trace.cycles));
     }
+    trace.cycles
+}
+
+/// Whether the rule of request 4 decides: the verdict would have been another one before it.
+fn decides(sheet: &stored::Sheet, trace: &[u16]) -> bool {
+    verdict(sheet, trace) != verdict_by(Rule::Inside, sheet, trace)
 }
 
 fn short(seed: u64, draw: Draw, what: &str, least: [usize; 6]) {
@@ -94,8 +101,8 @@ fn marked_and_short() {
     tally.demand("marked and short", [2500, 0, 1500, 0, 2500, 1500]);
 }
 
-/// Parts that share names, and how often the rule of request 4 decides: the verdict would have been
-/// another one before it.
+/// Parts that share names, and how many of the verdicts that are compared the rule of request 4
+/// decides.
 #[test]
 fn shared_and_short() {
     let mut random = Random::new(14);
@@ -107,10 +114,9 @@ fn shared_and_short() {
             Shape { signals: random.between(1, 2), names, nodes: 0, clauses: 1, numbers: 4 };
         let sheet = generate::shared(&mut random, shape);
         let cycles = random.between(3, [0, 6, 5, 4][names]);
-        one(&mut random, &mut tally, &sheet, cycles);
+        let trace = one(&mut random, &mut tally, &sheet, cycles);
         let source = stored::sheet(&sheet.bytes()).unwrap();
-        let trace = generate::trace(&mut random, shape.signals, cycles).cycles;
-        decided += (verdict(&source, &trace) != verdict_by(Rule::Inside, &source, &trace)) as usize;
+        decided += decides(&source, &trace) as usize;
     }
     tally.demand("shared and short", [3000, 0, 3000, 0, 3000, 3000]);
     compare::report(format!("shared and short: request 4 decides {decided} verdicts"));
@@ -133,9 +139,7 @@ fn shared_on_every_trace() {
             for word in 0..1u16 << cycles {
                 let trace: Vec<u16> = (0..cycles).map(|t| word >> t & 1).collect();
                 tally.evaluated(translated.agrees(&trace));
-                let source = &translated.source;
-                decided +=
-                    (verdict(source, &trace) != verdict_by(Rule::Inside, source, &trace)) as usize;
+                decided += decides(&translated.source, &trace) as usize;
             }
         }
     }
