@@ -1,5 +1,5 @@
-/* Calls the library from C: the scope paper's example, typed and stored, and a refusal of each operation. Prints a line for each check and
-   returns 1 where one fails. */
+/* Calls the library from C: the scope paper's example, typed and stored, a sheet with advice, and a refusal of each operation. Prints a line
+   for each check and returns 1 where one fails. */
 #include "fasunqir.h"
 #include <stdio.h>
 #include <string.h>
@@ -16,8 +16,23 @@ static const uint8_t sheet[] = {
 static const char typed[] = "1 0\nrequire anti(<s0>:)\n";
 static const char mistyped[] = "1 0\nrequire anti(<s0>)\n";
 
+/* Two clauses: as advice the signal is never high, and as a commitment it is high in the first cycle. */
+static const uint8_t advised[] = {
+    0x00, 0x29, 0x01, 0x01, 0x01, 0x00, 0x00, 0x02, 0x02,             /* one signal, no names, two nodes, two clauses */
+    0x03, 0x00, 0x00, 0x00, 0x00, 0x00,                               /* node 0: signal 0 */
+    0x10, 0x00, 0x00, 0x00, 0x00, 0x00,                               /* node 1: <node 0> */
+    0x03, 0x02, 0x00, 0x01, 0x00, 0x00, 0x00, 0x00, 0x00, 0x00, 0x00, /* clause 0: anti, advice, root 1 */
+    0x01, 0x01, 0x00, 0x01, 0x00, 0x00, 0x00, 0x00, 0x00, 0x00, 0x00, /* clause 1: pref, a commitment, root 1 */
+};
+
+/* Where the role of its clause 0 stands. */
+enum { ROLE = 9 + 2 * 6 + 1 };
+
 /* Three cycles, the signal high in the last. */
 static const uint8_t trace[] = {0x00, 0x08, 0x01, 0x01, 0x00, 0x00, 0x00, 0x00, 0x00, 0x01};
+
+/* Two cycles, the signal high in both. */
+static const uint8_t high[] = {0x00, 0x06, 0x01, 0x01, 0x00, 0x01, 0x00, 0x01};
 
 /* One more of each than is needed. */
 static uint64_t words[FASUNQIR_WORDS + 1];
@@ -33,6 +48,10 @@ static void expect(int ok, const char *what) {
 
 static uint64_t answer(uint64_t tag, uint64_t value) {
     return tag + 256 * value;
+}
+
+static uint64_t with_advice(uint64_t finding, uint64_t byte) {
+    return finding + 4294967296u * byte;
 }
 
 /* Fills what is lent with 7, so that every change shows. */
@@ -76,6 +95,33 @@ static void checks(void) {
     uint64_t refused = fasunqir_check(sheet, sizeof sheet, trace, 3, words, FASUNQIR_WORDS + 1);
     expect(refused == answer(FASUNQIR_REFUSED, 10), "check: a trace of 3 bytes is refused by 10");
     expect(all_words(7), "check: refused, the words are as they were");
+}
+
+/* The sheet with advice, its clause 0 in this role. */
+static uint64_t check_advised(uint8_t role, const uint8_t *cycles, size_t cycles_len) {
+    uint8_t changed[sizeof advised];
+    memcpy(changed, advised, sizeof advised);
+    changed[ROLE] = role;
+    lend();
+    return fasunqir_check(changed, sizeof changed, cycles, cycles_len, words, FASUNQIR_WORDS + 1);
+}
+
+static void advice(void) {
+    uint64_t holds = check_advised(2, high, sizeof high);
+    expect(holds == with_advice(answer(FASUNQIR_HOLDS, 0), 1), "advice: HOLDS, and clause 0 fails");
+    expect(all_words(0), "advice: the words are zero");
+
+    uint64_t broken = check_advised(2, trace, sizeof trace);
+    expect(broken == with_advice(answer(FASUNQIR_BROKEN, 1 * 262144), 1), "advice: BROKEN 1 0 0 0, and clause 0 fails");
+    expect(FASUNQIR_TAG(broken) == FASUNQIR_BROKEN && FASUNQIR_VALUE(broken) == 1 * 262144 && FASUNQIR_ADVICE(broken) == 1,
+           "advice: tag, value and advice by themselves");
+
+    uint64_t commitment = check_advised(1, high, sizeof high);
+    expect(commitment == answer(FASUNQIR_BROKEN, 0), "advice: BROKEN 0 0 0 0 where clause 0 is a commitment");
+
+    uint64_t refused = check_advised(3, high, sizeof high);
+    expect(refused == answer(FASUNQIR_REFUSED, 8), "advice: role 3 is refused by 8");
+    expect(all_words(7), "advice: refused, the words are as they were");
 }
 
 static void tables(void) {
@@ -141,6 +187,7 @@ static void texts(void) {
 
 int main(void) {
     checks();
+    advice();
     tables();
     translations();
     texts();

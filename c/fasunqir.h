@@ -4,8 +4,9 @@
    none is null: for no bytes pass a pointer to anything and 0, not (NULL, 0). What is lent to be written overlaps nothing
    else that is passed. No pointer is kept.
 
-   An answer is a tag and 256 times a value. Tag 0: refused, and the value is the number of the refusal, 1 to 20. Whatever
-   was lent is then as it was. */
+   The lower 32 bits of an answer are a tag and 256 times a value. Tag 0: refused, and the value is the number of the refusal,
+   1 to 20. Whatever was lent is then as it was. The upper 32 bits are 0 but for a verdict, whose advice they are: a byte,
+   bit k set exactly if clause k is advice (role 2) and fails. */
 #ifndef FASUNQIR_H
 #define FASUNQIR_H
 
@@ -15,6 +16,11 @@
 #ifdef __cplusplus
 extern "C" {
 #endif
+
+/* The parts of an answer. */
+#define FASUNQIR_TAG(answer) ((uint32_t)((answer) % 256))
+#define FASUNQIR_VALUE(answer) ((uint32_t)((answer) % 4294967296u / 256))
+#define FASUNQIR_ADVICE(answer) ((uint32_t)((answer) / 4294967296u))
 
 enum {
     FASUNQIR_REFUSED = 0,
@@ -30,7 +36,8 @@ enum {
     FASUNQIR_OUTPUT = 8192 /* the bytes that the translator and the reader of typed sheets are lent, at least */
 };
 
-/* The verdict of a sheet on a trace: EXCUSED, BROKEN or HOLDS. The lent words are all zero afterwards. */
+/* The verdict of a sheet on a trace: EXCUSED, BROKEN or HOLDS, which advice doesn't touch, and beside it the advice that
+   fails. The lent words are all zero afterwards. */
 uint64_t fasunqir_check(const uint8_t *sheet, size_t sheet_len, const uint8_t *trace, size_t trace_len,
                         uint64_t *words, size_t words_len);
 
@@ -42,8 +49,8 @@ uint64_t fasunqir_table(const uint8_t *sheet, size_t sheet_len, const uint8_t *t
                         size_t p0, size_t p1, size_t p2, uint64_t *words, size_t words_len, uint64_t *rows,
                         size_t rows_len);
 
-/* Writes the formula of a sheet, a sheet of kind 2, into the lent bytes: WRITTEN. Bytes from its length on keep their
-   values. */
+/* Writes the formula of a sheet, a sheet of kind 2, into the lent bytes: WRITTEN. Advice is no part of it. Bytes from its
+   length on keep their values. */
 uint64_t fasunqir_translate(const uint8_t *sheet, size_t sheet_len, uint8_t *out, size_t out_len);
 
 /* Reads a typed sheet and writes it as a stored sheet into the lent bytes: WRITTEN. Bytes from its length on keep their

@@ -14,7 +14,7 @@ mod reference;
 mod timing;
 
 use build::Sheet;
-use cases::{chops, places, waveforms, Case};
+use cases::{chops, places, waveforms, Advised, Case};
 use fasunqir::{OUTPUT, ROWS, WORDS};
 use std::fmt::Write;
 use std::hint::black_box;
@@ -90,6 +90,37 @@ fn write_rows(text: &mut String, title: &str, rows: &[Row]) {
             "| {what} | {library:.1} | {plain:.1} | {brute_time} | {ratio:.2} | {brute_ratio} |"
         )
         .unwrap();
+    }
+    writeln!(text).unwrap();
+}
+
+/// What advice costs: the variants of a sheet take turns, and each stands beside the first, which
+/// has none.
+fn advice(text: &mut String) {
+    writeln!(text, "| check, one name, 64 cycles | clauses of advice | library µs | more, a clause | to none |")
+        .unwrap();
+    writeln!(text, "|---|---:|---:|---:|---:|").unwrap();
+    for Advised { what, trace, clauses, sheets } in cases::advice() {
+        let sheets = sheets.map(|sheet| sheet.bytes());
+        let mut lent = [(); 4].map(|()| vec![0; WORDS]);
+        let [none, one, half, all] = &mut lent;
+        let call = |k: usize, words: &mut [u64]| {
+            black_box(fasunqir::check_with(&sheets[k], &trace, words)).unwrap();
+        };
+        let times = microseconds([
+            &mut || call(0, none),
+            &mut || call(1, one),
+            &mut || call(2, half),
+            &mut || call(3, all),
+        ]);
+        for (clauses, time) in clauses.into_iter().zip(times) {
+            let more = match clauses {
+                0 => "–".to_string(),
+                _ => format!("{:.1}", (time - times[0]) / clauses as f64),
+            };
+            let ratio = time / times[0];
+            writeln!(text, "| {what} | {clauses} | {time:.1} | {more} | {ratio:.2} |").unwrap();
+        }
     }
     writeln!(text).unwrap();
 }
@@ -191,6 +222,7 @@ fn main() {
     let mut text = String::new();
     write_rows(&mut text, "check", &checks);
     write_rows(&mut text, "table", &tables);
+    advice(&mut text);
     translations(&mut text);
     texts(&mut text);
     print!("{text}");

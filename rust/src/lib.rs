@@ -1,21 +1,24 @@
 //! Sheets are timing diagrams with limited liveness, traces are what was observed. [`read_text`]
-//! reads a sheet as it is typed, [`check`] says which clause of a sheet a trace breaks and where,
-//! [`table`] on which intervals a formula of the sheet holds, and [`translate`] writes the sheet as a
-//! QDDC formula.
+//! reads a sheet as it is typed, [`check`] says which clause of a sheet a trace breaks and where and
+//! which advice fails, [`table`] on which intervals a formula of the sheet holds, and [`translate`]
+//! writes the sheet as a QDDC formula.
 //!
 //! The four operations are proved in Rattle; this crate gives them Rust types and adds nothing to
 //! them. Sheets and traces are bytes in the stored layout.
 //!
 //! ```
-//! use fasunqir::{check, read_text, Place, Verdict};
+//! use fasunqir::{check, read_text, Finding, Place};
 //!
 //! // One signal, no names, and one commitment: the signal never rises.
 //! let sheet = read_text(b"1 0\nrequire anti(<s0>:)\n").unwrap();
 //! // Three cycles, the signal high in the last.
 //! let trace = [0x00, 0x08, 1, 1, 0, 0, 0, 0, 0, 1];
 //!
+//! let verdict = check(&sheet, &trace).unwrap();
 //! let place = Place { clause: 0, i: 2, j: 2, k: 2 };
-//! assert_eq!(check(&sheet, &trace), Ok(Verdict::Broken(place)));
+//! assert_eq!(verdict.finding, Finding::Broken(place));
+//! assert_eq!(verdict.advice, 0);
+//! assert_eq!(verdict.to_string(), "BROKEN 0 2 2 2 0");
 //! ```
 
 use std::error::Error;
@@ -82,9 +85,10 @@ pub struct Place {
     pub k: usize,
 }
 
-/// What a check finds. It prints as the program prints it.
+/// What a check finds of the requirement, which is made of assumptions and commitments. Advice is
+/// passed over.
 #[derive(Clone, Copy, Debug, PartialEq, Eq, Hash)]
-pub enum Verdict {
+pub enum Finding {
     /// Every assumption and every commitment holds.
     Holds,
     /// An assumption fails; this is the first.
@@ -93,15 +97,59 @@ pub enum Verdict {
     Broken(Place),
 }
 
-impl fmt::Display for Verdict {
+impl fmt::Display for Finding {
     fn fmt(&self, out: &mut fmt::Formatter<'_>) -> fmt::Result {
         match self {
-            Verdict::Holds => write!(out, "HOLDS"),
-            Verdict::Excused { clause } => write!(out, "EXCUSED {clause}"),
-            Verdict::Broken(Place { clause, i, j, k }) => {
+            Finding::Holds => write!(out, "HOLDS"),
+            Finding::Excused { clause } => write!(out, "EXCUSED {clause}"),
+            Finding::Broken(Place { clause, i, j, k }) => {
                 write!(out, "BROKEN {clause} {i} {j} {k}")
             }
         }
+    }
+}
+
+/// The answer of a check: what it finds of the requirement, and beside it the advice that fails. It
+/// prints as the program prints it.
+///
+/// ```
+/// use fasunqir::{check, read_text, Finding};
+///
+/// // Neither signal is ever high; the second clause is turned to advice, role 2.
+/// let mut sheet = read_text(b"2 0\nrequire anti(<s0>:)\nrequire anti(<s1>:)\n").unwrap();
+/// let last_clause = sheet.len() - 11;
+/// sheet[last_clause + 1] = 2;
+///
+/// // Signal 1 is high in the second of two cycles: the advice fails and the requirement holds.
+/// let verdict = check(&sheet, &[0x00, 0x06, 1, 2, 0, 0, 0, 2]).unwrap();
+/// assert_eq!(verdict.finding, Finding::Holds);
+/// assert_eq!(verdict.advice, 0b10);
+/// assert_eq!(verdict.to_string(), "HOLDS 2");
+/// ```
+#[derive(Clone, Copy, Debug, PartialEq, Eq, Hash)]
+pub struct Verdict {
+    pub finding: Finding,
+    /// Bit k is set exactly if clause k is advice and fails, whatever the finding.
+    pub advice: u8,
+}
+
+impl Verdict {
+    /// The numbers of the clauses that are advice and fail, from the lowest up.
+    ///
+    /// ```
+    /// use fasunqir::{Finding, Verdict};
+    ///
+    /// let verdict = Verdict { finding: Finding::Excused { clause: 1 }, advice: 0b1000_0101 };
+    /// assert!(verdict.failing_advice().eq([0, 2, 7]));
+    /// ```
+    pub fn failing_advice(self) -> impl Iterator<Item = usize> {
+        (0..8).filter(move |clause| self.advice >> clause & 1 == 1)
+    }
+}
+
+impl fmt::Display for Verdict {
+    fn fmt(&self, out: &mut fmt::Formatter<'_>) -> fmt::Result {
+        write!(out, "{} {}", self.finding, self.advice)
     }
 }
 
@@ -130,7 +178,7 @@ const REFUSALS: [&str; 20] = [
     "a node has an op not of kind 1, a nonzero unused field, a signal, name, comparison or symbol \
      out of range, or a gap with a > b",
     "an operand isn't an earlier node of the sort needed",
-    "a clause has a type outside 1–6, a role above 1, a used root that isn't a formula node, or a \
+    "a clause has a type outside 1–6, a role above 2, a used root that isn't a formula node, or a \
      nonzero unused root or mask",
     "a mask has a bit for a name from m up, or a part reaches a name its mask lacks",
     "the trace has under 4 bytes or bytes 0–1 aren't its length less 2",
@@ -181,7 +229,8 @@ impl Table {
     }
 }
 
-/// An answer as it crosses the boundary: tag + 256 · value.
+/// An answer as it crosses the boundary: tag + 256 · value in the lower 32 bits, and in the upper 32
+/// the advice of a verdict, or 0.
 enum Answer {
     Refused(Refusal),
     Verdict(Verdict),
@@ -189,20 +238,20 @@ enum Answer {
 }
 
 fn unpack(answer: u64) -> Answer {
-    let value = (answer / 256) as usize;
-    match answer % 256 {
-        0 if (1..=REFUSALS.len()).contains(&value) => {
+    let value = (answer as u32 / 256) as usize;
+    let verdict = |finding, advice| Answer::Verdict(Verdict { finding, advice });
+    match (answer % 256, u8::try_from(answer >> 32)) {
+        (0, Ok(0)) if (1..=REFUSALS.len()).contains(&value) => {
             Answer::Refused(Refusal { number: value as u8 })
         }
-        1 => Answer::Verdict(Verdict::Excused { clause: value }),
-        2 => Answer::Verdict(Verdict::Broken(Place {
-            clause: value / 262_144,
-            i: value / 4096 % 64,
-            j: value / 64 % 64,
-            k: value % 64,
-        })),
-        3 if value == 0 => Answer::Verdict(Verdict::Holds),
-        4 => Answer::Done(value),
+        (1, Ok(advice)) => verdict(Finding::Excused { clause: value }, advice),
+        (2, Ok(advice)) => {
+            let clause = value / 262_144;
+            let (i, j, k) = (value / 4096 % 64, value / 64 % 64, value % 64);
+            verdict(Finding::Broken(Place { clause, i, j, k }), advice)
+        }
+        (3, Ok(advice)) if value == 0 => verdict(Finding::Holds, advice),
+        (4, Ok(0)) => Answer::Done(value),
         _ => panic!("no answer of the boundary: {answer:#x}"),
     }
 }
@@ -210,7 +259,7 @@ fn unpack(answer: u64) -> Answer {
 /// The verdict of a sheet on a trace.
 ///
 /// ```
-/// use fasunqir::{check, Verdict};
+/// use fasunqir::{check, Finding, Verdict};
 ///
 /// # let sheet = [
 /// #     0x00, 0x1E, 1, 1, 1, 0, 0, 2, 1, 3, 0, 0, 0, 0, 0, 16, 0, 0, 0, 0, 0,
@@ -218,7 +267,7 @@ fn unpack(answer: u64) -> Answer {
 /// # ];
 /// // The sheet of the crate's example: signal 0 is never high.
 /// let quiet = [0x00, 0x06, 1, 1, 0, 0, 0, 0];
-/// assert_eq!(check(&sheet, &quiet), Ok(Verdict::Holds));
+/// assert_eq!(check(&sheet, &quiet), Ok(Verdict { finding: Finding::Holds, advice: 0 }));
 ///
 /// let two_signals = [0x00, 0x06, 1, 2, 0, 0, 0, 0];
 /// assert_eq!(check(&sheet, &two_signals).unwrap_err().number(), 12);
@@ -335,7 +384,7 @@ pub fn table_with(
 }
 
 /// The QDDC formula of a sheet, as the bytes of a sheet of kind 2. It is true of a trace exactly
-/// when the sheet's requirement is.
+/// when the sheet's requirement is; advice is no part of it.
 ///
 /// ```
 /// # let sheet = [

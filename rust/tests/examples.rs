@@ -1,5 +1,5 @@
-//! The library on document 01's examples, program input and traps, on names that stay (request 4),
-//! and on the specifications of document 004.
+//! The library on document 01's examples, program input and traps, on names that stay (request 4), on
+//! advice (request 5), and on the specifications of document 004.
 
 mod build;
 mod cases;
@@ -7,13 +7,19 @@ mod compare;
 mod generate;
 mod reference;
 
-use cases::{examples, names, paper, Case};
+use cases::{advice, examples, names, paper, Case};
 use compare::Tally;
 use generate::Random;
 use reference::stored::is_formula;
 
-/// The verdict, every table of the sheet, and the formula on short traces.
+/// The verdict, every table of the sheet, and the formula on short traces: as many of them true and
+/// as many false as there are cases, at least.
 fn run(what: &str, cases: Vec<Case>) {
+    let least = cases.len();
+    ran(cases).demand(what, [0, 0, 0, 0, least, least]);
+}
+
+fn ran(cases: Vec<Case>) -> Tally {
     let mut tally = Tally::default();
     let mut random = Random::new(3);
     for case in &cases {
@@ -39,7 +45,7 @@ fn run(what: &str, cases: Vec<Case>) {
             tally.evaluated(translated.agrees(&trace.cycles));
         }
     }
-    tally.demand(what, [0, 0, 0, 0, cases.len(), cases.len()]);
+    tally
 }
 
 #[test]
@@ -54,7 +60,7 @@ fn proved_examples() {
 fn program_input() {
     let case = examples::program();
     let verdict = fasunqir::check(&case.sheet, &case.trace).unwrap();
-    assert_eq!(verdict.to_string(), "BROKEN 0 2 2 2");
+    assert_eq!(verdict.to_string(), "BROKEN 0 2 2 2 0");
     run("program input", vec![case]);
 }
 
@@ -71,6 +77,28 @@ fn corners() {
 #[test]
 fn names_that_stay() {
     run("names that stay", names::cases().into_iter().map(|stays| stays.case).collect());
+}
+
+#[test]
+fn advice_beside_commitments() {
+    for advised in advice::cases() {
+        let verdict = fasunqir::check(&advised.case.sheet, &advised.case.trace).unwrap();
+        assert_eq!(verdict.to_string(), advised.line, "{}", advised.case.what);
+        let bits: u8 = verdict.failing_advice().map(|clause| 1 << clause).sum();
+        assert_eq!(bits, verdict.advice, "{}", advised.case.what);
+    }
+    run("advice", advice::cases().into_iter().map(|advised| advised.case).collect());
+}
+
+/// With nothing but advice the requirement is true of every trace.
+#[test]
+fn names_that_stay_in_advice() {
+    let cases = advice::names_that_stay();
+    let least = cases.len();
+    let tally = ran(cases);
+    tally.demand("names that stay in advice", [least, 0, 0, 0, 20 * least, 0]);
+    tally.demand_advice("names that stay in advice", [4, 0, 0]);
+    assert_eq!(tally.falsehoods, 0);
 }
 
 #[test]

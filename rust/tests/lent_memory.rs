@@ -6,12 +6,13 @@ mod cases;
 mod compare;
 mod reference;
 
-use cases::{examples, paper, Case};
+use cases::{advice, examples, paper, Case};
 
 fn all() -> Vec<Case> {
     let mut cases = vec![examples::program()];
     cases.extend(examples::corners());
     cases.extend(paper::cases());
+    cases.extend(advice::cases().into_iter().map(|advised| advised.case));
     cases
 }
 

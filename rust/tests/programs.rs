@@ -7,7 +7,7 @@ mod generate;
 mod reference;
 
 use build::{hex, Sheet};
-use cases::{examples, names, paper, Case};
+use cases::{advice, examples, names, paper, Case};
 use compare::{Tally, TextTally, Translated};
 use generate::text::{typed, Flaw, TextShape};
 use generate::{damaged, Random, Shape};
@@ -37,6 +37,11 @@ fn cases() -> Vec<Case> {
     cases.extend(names::cases().into_iter().map(|stays| stays.case));
     cases.extend(paper::cases());
     cases
+}
+
+/// The cases of advice, after all else, so that the other inputs are drawn as without them.
+fn advised() -> Vec<Case> {
+    advice::cases().into_iter().map(|advised| advised.case).collect()
 }
 
 /// Inputs that are no sheet at all.
@@ -69,12 +74,20 @@ fn sheetcheck() {
         let input = [sheet, generate::trace(&mut random, 2, 4).bytes()].concat();
         inputs.push(if case % 3 == 0 { damaged(&mut random, &input) } else { input });
     }
+    for case in 0..150 {
+        let shape = Shape { signals: 2, names: case % 3, nodes: 12, clauses: 5, numbers: 4 };
+        let sheet = generate::plain(&mut random, shape);
+        let sheet = generate::advised(&mut random, &sheet).bytes();
+        inputs.push([sheet, generate::trace(&mut random, 2, 4).bytes()].concat());
+    }
+    inputs.extend(advised().into_iter().map(|case| [case.sheet, case.trace].concat()));
     let mut tally = Tally::default();
     for input in &inputs {
         assert_eq!(written("sheetcheck", input), program::line(input).as_bytes(), "{}", hex(input));
         tally.count(&program::verdict(input));
     }
     tally.demand("sheetcheck", [30, 25, 60, 100, 0, 0]);
+    tally.demand_advice("sheetcheck", [40, 20, 30]);
 }
 
 #[test]
@@ -96,6 +109,11 @@ fn sheettable() {
         let trace = generate::trace(&mut random, 2, 4).bytes();
         let input = [&node.to_be_bytes()[..], &cycles, &sheet.bytes(), &trace].concat();
         inputs.push(if case % 3 == 0 { damaged(&mut random, &input) } else { input });
+    }
+    for case in advised() {
+        for node in 0..2 {
+            inputs.push([&[0, node, 0, 0, 0], &case.sheet[..], &case.trace].concat());
+        }
     }
     let (mut tables, mut numbers) = (0, [0; 18]);
     for input in &inputs {
@@ -126,6 +144,7 @@ fn sheetformula() {
         let sheet = small(&mut random, case).bytes();
         inputs.push(if case % 3 == 0 { damaged(&mut random, &sheet) } else { sheet });
     }
+    inputs.extend(advised().into_iter().map(|case| case.sheet));
     let mut tally = Tally::default();
     for input in &inputs {
         let bytes = written("sheetformula", input);

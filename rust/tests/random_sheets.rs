@@ -6,10 +6,10 @@ mod compare;
 mod generate;
 mod reference;
 
-use build::{from_hex, Part, Role, Sheet};
+use build::{from_hex, hex, Part, Role, Sheet};
 use compare::Tally;
 use generate::{damaged, Random, Shape};
-use reference::clauses::{verdict, verdict_by, Rule};
+use reference::clauses::{finding_by, Finding, Rule};
 use reference::stored::{self, is_formula};
 
 type Draw = fn(&mut Random, Shape) -> Sheet;
@@ -53,9 +53,9 @@ fn one(random: &mut Random, tally: &mut Tally, sheet: &Sheet, cycles: usize) -> 
     trace.cycles
 }
 
-/// Whether the rule of request 4 decides: the verdict would have been another one before it.
+/// Whether the rule of request 4 decides: the finding would have been another one before it.
 fn decides(sheet: &stored::Sheet, trace: &[u16]) -> bool {
-    verdict(sheet, trace) != verdict_by(Rule::Inside, sheet, trace)
+    finding_by(Rule::Stays, sheet, trace) != finding_by(Rule::Inside, sheet, trace)
 }
 
 fn short(seed: u64, draw: Draw, what: &str, least: [usize; 6]) {
@@ -148,6 +148,141 @@ fn shared_on_every_trace() {
     assert!(decided >= 1200, "{decided} verdicts");
 }
 
+/// Sheets with advice, up to eight clauses, and how many of the verdicts that are compared have
+/// advice that fails.
+#[test]
+fn advised_and_short() {
+    let mut random = Random::new(16);
+    let mut tally = Tally::default();
+    for case in 0..6000 {
+        let shape = Shape {
+            signals: random.between(1, 4),
+            names: random.below(4),
+            nodes: random.between(2, 24),
+            clauses: random.pick(&[1, 2, 3, 4, 5, 6, 7, 8, 8, 8]),
+            numbers: 5,
+        };
+        let sheet = DRAWS[case % 2](&mut random, shape);
+        let sheet = generate::advised(&mut random, &sheet);
+        let cycles = random.between(1, 6);
+        one(&mut random, &mut tally, &sheet, cycles);
+    }
+    tally.demand("advised and short", [1000, 1000, 1000, 0, 1000, 700]);
+    tally.demand_advice("advised and short", [800, 800, 800]);
+    tally.demand_bits("advised and short", 200);
+}
+
+/// The same with no name or one on long traces.
+#[test]
+fn advised_and_long() {
+    let mut random = Random::new(17);
+    let mut tally = Tally::default();
+    for case in 0..150 {
+        let shape = Shape {
+            signals: random.between(1, 16),
+            names: case % 2,
+            nodes: random.between(6, 20),
+            clauses: random.between(1, 8),
+            numbers: random.pick(&[5, 20, 70]),
+        };
+        let sheet = DRAWS[case / 2 % 2](&mut random, shape);
+        let sheet = generate::advised(&mut random, &sheet);
+        let cycles = random.pick(&[33, 63, 64, 64]);
+        one(&mut random, &mut tally, &sheet, cycles);
+    }
+    tally.demand_advice("advised and long", [15, 15, 15]);
+}
+
+/// The finding of a sheet by the numbers that its clauses have in another.
+fn renumbered(finding: Finding, numbers: &[usize]) -> Finding {
+    match finding {
+        Finding::Holds => Finding::Holds,
+        Finding::Excused(clause) => Finding::Excused(numbers[clause]),
+        Finding::Broken(clause, i, j, k) => Finding::Broken(numbers[clause], i, j, k),
+    }
+}
+
+/// Every choice of a sheet's clauses turned to advice: each fails exactly if it fails where all
+/// clauses are advice, and the finding is that of the sheet from which they are cut out.
+#[test]
+fn every_choice_of_advice() {
+    let mut random = Random::new(18);
+    let mut tally = Tally::default();
+    for case in 0..600 {
+        let shape = Shape {
+            signals: random.between(1, 3),
+            names: random.below(4),
+            nodes: random.between(3, 16),
+            clauses: random.between(2, 4),
+            numbers: 5,
+        };
+        let sheet = DRAWS[case % 2](&mut random, shape);
+        let cycles = random.between(1, 5);
+        let trace = generate::trace(&mut random, shape.signals, cycles).bytes();
+        let verdict = |sheet: &Sheet| compare::check(&sheet.bytes(), &trace, 4096).unwrap();
+        let all = sheet.all_clauses();
+        let failing = verdict(&sheet.with_advice(all)).advice;
+        for set in 0..=all {
+            let advised = sheet.with_advice(set);
+            let replay = || format!("sheet {}\ntrace {}", hex(&advised.bytes()), hex(&trace));
+            let found = verdict(&advised);
+            assert_eq!(found.advice, failing & set, "{}", replay());
+            let holds = failing & !set == 0;
+            assert_eq!(found.finding == Finding::Holds, holds, "{}", replay());
+            if set < all {
+                let left: Vec<usize> = (0..shape.clauses).filter(|k| set >> k & 1 == 0).collect();
+                let without = verdict(&sheet.without(set));
+                assert_eq!(found.finding, renumbered(without.finding, &left), "{}", replay());
+            }
+            tally.count(&Ok(found));
+        }
+    }
+    tally.demand("every choice of advice", [1500, 500, 1000, 0, 0, 0]);
+    tally.demand_advice("every choice of advice", [1000, 250, 500]);
+}
+
+/// The formula of a sheet with advice is, byte for byte, that of the sheet from which the advice is
+/// cut out; of advice alone it is true of every trace.
+#[test]
+fn formulas_without_advice() {
+    let mut random = Random::new(19);
+    let mut tally = Tally::default();
+    let mut alone = 0;
+    for case in 0..1500 {
+        let names = random.below(4);
+        let shape = Shape {
+            signals: random.between(1, 3),
+            names,
+            nodes: random.between(3, 20),
+            clauses: random.between(1, 8),
+            numbers: 5,
+        };
+        let sheet = DRAWS[case % 2](&mut random, shape);
+        let set = random.between(1, sheet.all_clauses() as usize) as u8;
+        let advised = sheet.with_advice(set).bytes();
+        let only_advice = set == sheet.all_clauses();
+        if !only_advice {
+            let without = fasunqir::translate(&sheet.without(set).bytes());
+            assert_eq!(fasunqir::translate(&advised), without, "sheet {}", hex(&advised));
+        }
+        let translated = compare::translate(&advised, 8192).unwrap();
+        tally.formulas += 1;
+        for _ in 0..3 {
+            let cycles = random.between(1, [6, 6, 5, 4][names]);
+            let trace = generate::trace(&mut random, shape.signals, cycles);
+            tally.count(&compare::check(&advised, &trace.bytes(), 4096));
+            let truth = translated.agrees(&trace.cycles);
+            assert!(truth || !only_advice, "sheet {}", hex(&advised));
+            tally.evaluated(truth);
+        }
+        alone += only_advice as usize;
+    }
+    tally.demand("formulas without advice", [800, 800, 800, 0, 1500, 800]);
+    tally.demand_advice("formulas without advice", [500, 500, 500]);
+    compare::report(format!("formulas without advice: {alone} sheets of advice alone"));
+    assert!(alone >= 200, "{alone} sheets of advice alone");
+}
+
 /// Long traces: many nodes without names, few with them.
 struct Long {
     seed: u64,
@@ -234,7 +369,7 @@ fn most_nodes() {
     ];
     for node in drawings {
         for clause_type in 1..=6 {
-            for role in 0..2 {
+            for role in 0..3 {
                 let mut sheet = Sheet::new(1, 3);
                 sheet.nodes = vec![node; 64];
                 let parts = [1, 2, 1, 2, 3, 3][clause_type as usize - 1];
@@ -250,6 +385,7 @@ fn most_nodes() {
         }
     }
     tally.demand("most nodes", [50, 8, 8, 0, 60, 8]);
+    tally.demand_advice("most nodes", [8, 0, 0]);
 }
 
 /// Each sheet on every trace of up to three cycles.
@@ -386,6 +522,7 @@ fn every_byte() {
     let row = sheet.chop(at_both, count);
     let mark = sheet.mark(1);
     sheet.follows(Role::Commitment, Part(row, 1), Part(gap, 3), Part(mark, 2));
+    sheet.anti(Role::Advice, Part(at_both, 1));
     let sheet = sheet.bytes();
     let trace = build::Trace::drawn(&["011", "110"]).bytes();
     for at in 0..sheet.len() {
@@ -408,6 +545,7 @@ fn every_byte() {
         }
     }
     tally.demand("every byte", [250, 1, 300, 9000, 0, 0]);
+    tally.demand_advice("every byte", [250, 1, 300]);
 }
 
 /// Runs again what a failure printed: FASUNQIR_SHEET and FASUNQIR_TRACE in hexadecimal.

@@ -7,31 +7,35 @@ mod generate;
 mod plain;
 mod reference;
 
-use build::hex;
+use build::{hex, Sheet};
 use generate::{Random, Shape};
-use reference::clauses::Verdict;
+use reference::clauses::{Finding, Verdict};
 
-fn same(found: plain::Verdict, expected: Verdict) -> bool {
-    match (found, expected) {
-        (plain::Verdict::Holds, Verdict::Holds) => true,
-        (plain::Verdict::Excused(c), Verdict::Excused(d)) => c == d,
-        (plain::Verdict::Broken(c, i, j, k), Verdict::Broken(d, x, y, z)) => {
-            (c, i, j, k) == (d, x, y, z)
-        }
-        _ => false,
-    }
+fn as_reference(plain::Verdict { finding, advice }: plain::Verdict) -> Verdict {
+    let finding = match finding {
+        plain::Finding::Holds => Finding::Holds,
+        plain::Finding::Excused(clause) => Finding::Excused(clause),
+        plain::Finding::Broken(clause, i, j, k) => Finding::Broken(clause, i, j, k),
+    };
+    Verdict { finding, advice }
 }
 
-#[test]
-fn random_sheets() {
-    let mut random = Random::new(1);
-    let mut counts = [0; 3];
-    for case in 0..3000 {
+/// So many random sheets of up to so many clauses, put through `turn`. Gives how many verdicts were
+/// Holds, Excused and Broken, and under each of them how many had advice that fails.
+fn run(
+    seed: u64,
+    sheets: usize,
+    clauses: usize,
+    turn: fn(&mut Random, &Sheet) -> Sheet,
+) -> ([usize; 3], [usize; 3]) {
+    let mut random = Random::new(seed);
+    let (mut counts, mut advised) = ([0; 3], [0; 3]);
+    for case in 0..sheets {
         let shape = Shape {
             signals: random.between(1, 3),
             names: random.below(4),
             nodes: random.between(2, 16),
-            clauses: random.between(1, 3),
+            clauses: random.between(1, clauses),
             numbers: 5,
         };
         let sheet = if case % 3 == 0 {
@@ -41,6 +45,7 @@ fn random_sheets() {
         } else {
             generate::drawn(&mut random, shape)
         };
+        let sheet = turn(&mut random, &sheet);
         let cycles = random.between(1, 7);
         let trace = generate::trace(&mut random, shape.signals, cycles);
         let (sheet, trace) = (sheet.bytes(), trace.bytes());
@@ -48,13 +53,14 @@ fn random_sheets() {
         let expected = reference::check(&sheet, &trace, 4096);
         let expected = expected.unwrap_or_else(|n| panic!("refused {n}\n{}", replay()));
         let mut checker = plain::Checker::new(&sheet, &trace);
-        let found = checker.check();
-        assert!(same(found, expected), "{found:?} {expected:?}\n{}", replay());
-        counts[match expected {
-            Verdict::Holds => 0,
-            Verdict::Excused(_) => 1,
-            Verdict::Broken(..) => 2,
-        }] += 1;
+        assert_eq!(as_reference(checker.check()), expected, "{}", replay());
+        let under = match expected.finding {
+            Finding::Holds => 0,
+            Finding::Excused(_) => 1,
+            Finding::Broken(..) => 2,
+        };
+        counts[under] += 1;
+        advised[under] += (expected.advice != 0) as usize;
         let places = [0; 3].map(|_| random.below(cycles));
         let read = reference::stored::sheet(&sheet).unwrap();
         for node in
@@ -65,6 +71,19 @@ fn random_sheets() {
             assert_eq!(found[..cycles], rows[..cycles], "node {node} at {places:?}\n{}", replay());
         }
     }
-    println!("holds {}, excused {}, broken {}", counts[0], counts[1], counts[2]);
+    println!("{counts:?} hold, are excused, are broken; advice fails in {advised:?} of them");
+    (counts, advised)
+}
+
+#[test]
+fn random_sheets() {
+    let (counts, advised) = run(1, 3000, 3, |_, sheet| sheet.clone());
     assert!(counts.iter().all(|&count| count >= 150), "a verdict came too seldom");
+    assert_eq!(advised, [0; 3], "advice where no clause is any");
+}
+
+#[test]
+fn sheets_with_advice() {
+    let (_, advised) = run(2, 2000, 8, generate::advised);
+    assert!(advised.iter().all(|&count| count >= 150), "failing advice came too seldom");
 }

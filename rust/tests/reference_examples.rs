@@ -5,8 +5,8 @@ mod cases;
 mod reference;
 
 use build::{hex, Compare, Sheet, Trace};
-use cases::{examples, names, paper, Case};
-use reference::clauses::{verdict_by, Rule};
+use cases::{advice, examples, names, paper, Case};
+use reference::clauses::{finding_by, Rule};
 use reference::{formula, stored};
 
 fn run(cases: Vec<Case>) {
@@ -35,7 +35,7 @@ fn proved_examples() {
 fn program_input() {
     let case = examples::program();
     let mut input = [case.sheet.clone(), case.trace.clone()].concat();
-    assert_eq!(reference::program::line(&input), "BROKEN 0 2 2 2\n");
+    assert_eq!(reference::program::line(&input), "BROKEN 0 2 2 2 0\n");
     assert_eq!(reference::program::line(&input[..5]), "REFUSED 1\n");
     assert_eq!(reference::program::line(&input[..32]), "REFUSED 10\n");
     input.resize(5000, 0);
@@ -58,10 +58,21 @@ fn names_that_stay() {
     for stays in names::cases() {
         let sheet = stored::sheet(&stays.case.sheet).unwrap();
         let trace = stored::trace(&stays.case.trace, &sheet).unwrap();
-        let before = verdict_by(Rule::Inside, &sheet, &trace);
+        let before = finding_by(Rule::Inside, &sheet, &trace);
         assert_eq!(before, stays.before, "{}, before", stays.case.what);
         run(vec![stays.case]);
     }
+}
+
+#[test]
+fn advice_beside_commitments() {
+    for advised in advice::cases() {
+        let input = [&advised.case.sheet[..], &advised.case.trace].concat();
+        let line = advised.line.to_string() + "\n";
+        assert_eq!(reference::program::line(&input), line, "{}", advised.case.what);
+    }
+    run(advice::cases().into_iter().map(|advised| advised.case).collect());
+    run(advice::names_that_stay());
 }
 
 #[test]

@@ -49,6 +49,12 @@ fn sound() -> Input {
     }
 }
 
+/// The sound input with every clause turned to advice, which is read like the others.
+fn advised() -> Input {
+    let input = sound();
+    Input { sheet: input.sheet.with_advice(input.sheet.all_clauses()), ..input }
+}
+
 type Damage = (Number, &'static str, fn(&mut Input));
 
 fn spare_6(input: &mut Input, node: [u8; 6]) {
@@ -181,7 +187,7 @@ fn damages() -> Vec<Damage> {
         (7, "sdur of itself", |i| spare_7(i, [26, 0, 0, SPARE_7 as u8, 0, 0])),
         (8, "type 0", |i| i.sheet.clauses[0][0] = 0),
         (8, "type 7", |i| i.sheet.clauses[0][0] = 7),
-        (8, "role 2", |i| i.sheet.clauses[0][1] = 2),
+        (8, "role 3", |i| i.sheet.clauses[0][1] = 3),
         (8, "role 255", |i| i.sheet.clauses[2][1] = 255),
         (8, "a root past the nodes", |i| i.sheet.clauses[0][3] = 9),
         (8, "a far root", |i| i.sheet.clauses[0][2] = 1),
@@ -278,10 +284,18 @@ impl Operation {
 
 const OPERATIONS: [Operation; 3] = [Operation::Check, Operation::Table, Operation::Translate];
 
+/// Every role below 3 is taken, in whichever clause.
 #[test]
 fn none() {
-    for operation in OPERATIONS {
-        assert_eq!(operation.refusal(&sound()), None, "{operation:?}");
+    for roles in 0..27 {
+        let mut input = sound();
+        let each = [roles % 3, roles / 3 % 3, roles / 9];
+        for (clause, role) in input.sheet.clauses.iter_mut().zip(each) {
+            clause[1] = role;
+        }
+        for operation in OPERATIONS {
+            assert_eq!(operation.refusal(&input), None, "{operation:?}, roles {each:?}");
+        }
     }
 }
 
@@ -292,14 +306,18 @@ fn alone() {
         assert!(damages.iter().any(|damage| damage.0 == number), "no damage for {number}");
     }
     for damage in &damages {
-        let mut input = sound();
-        damage.2(&mut input);
-        for operation in OPERATIONS {
-            let expected = operation.concerned(damage).then_some(damage.0);
-            assert_eq!(operation.refusal(&input), expected, "{operation:?}, {}", damage.1);
+        for mut input in [sound(), advised()] {
+            damage.2(&mut input);
+            for operation in OPERATIONS {
+                let expected = operation.concerned(damage).then_some(damage.0);
+                assert_eq!(operation.refusal(&input), expected, "{operation:?}, {}", damage.1);
+            }
         }
     }
-    compare::report(format!("refusals alone: {} damages, three operations each", damages.len()));
+    compare::report(format!(
+        "refusals alone: {} damages, with advice and without, three operations each",
+        damages.len()
+    ));
 }
 
 #[test]

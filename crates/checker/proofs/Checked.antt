@@ -30,11 +30,12 @@ use Rattle.stored.proofs.Tree.{Earlier}
 use Rattle.stored.proofs.Accepted.{Opened, ClauseKept, clauses-kept, accepted-fits, type-cases, mask-small, open-answer, answer-accepted, answer-refused, length-clauses, sheet-number}
 use Rattle.traces.proofs.Accepted.{cycles-accepted, cycles-refused, trace-number}
 use Rattle.checker.specs.declared.check.Answer.{Answer}
-use Rattle.checker.specs.declared.check.Answer.the-variants.{Refused}
+use Rattle.checker.specs.declared.check.Answer.the-variants.{Refused, Checked}
+use Rattle.checker.specs.declared.check.Verdict.{Verdict}
 use Rattle.checker.specs.Table.{orElse, wordsRefusal, wordsAfter}
 use Rattle.places.specs.Task.{taskOf}
 use Rattle.places.specs.Laid.{IsFormula, Formulas}
-use Rattle.checker.specs.Check.{told, checkRefusal, checkAnswer}
+use Rattle.checker.specs.Check.{toldWhole, checkRefusal, checkAnswer}
 use Rattle.checker.specs.Clauses.{Sound, Sounds, clauseAt}
 use Rattle.checker.proofs.Opened.{cycled-as, told-accepted}
 
@@ -49,12 +50,12 @@ module _ (s t words : List ℕ) where
       let q : eqb (checkRefusal s t words) 0 ≡ false = ap (λ (x : ℕ). eqb x 0) (sym e) ∙ z in
       (rw q (ap Refused e), rw q)
 
-  answered-as : (v : Answer) (after : List ℕ) → checkRefusal s t words ≡ 0 → v ≡ told (verdict (clausesOf s) (cyclesOf t)) → after ≡ replicate (length words) 0
-      → Answered v after
+  answered-as : (v : Verdict) (after : List ℕ) → checkRefusal s t words ≡ 0 → v ≡ toldWhole (verdict (clausesOf s) (cyclesOf t)) → after ≡ replicate (length words) 0
+      → Answered (Checked v) after
   unfolding checkAnswer wordsAfter pick
   answered-as v after e f g =
       let q : eqb (checkRefusal s t words) 0 ≡ true = ap (λ (x : ℕ). eqb x 0) e in
-      (rw q f, rw q g)
+      (rw q (ap Checked f), rw q g)
 
   pub check-sheet : (answer : SheetAnswer) (number k : ℕ) → answer ≡ sheetAnswer s → answer ≡ SheetAnswer.Refused k → number ≡ sheetNumber answer
       → Answered (Refused number) words
@@ -96,17 +97,17 @@ module _ (s t words : List ℕ) where
       unfolding wordsRefusal lowest
       check-words l = refused-as 15 (sym (at-words ∙ rw (lt-leb leastWords (length words) l))) refl
 
-      pub check-verdict : (nodes clauses columns after : List ℕ) (v : Answer) → leastWords ≤ length words → nodes ≡ nodePart s → clauses ≡ clausePart s
-          → columns ≡ columnsOf (h .signals) n t → v ≡ told (verdict (inOrder (h .clauses) (clauseAt nodes clauses)) (traceOf n columns)) → after ≡ replicate (length words) 0
-          → Answered v after
+      pub check-verdict : (nodes clauses columns after : List ℕ) (v : Verdict) → leastWords ≤ length words → nodes ≡ nodePart s → clauses ≡ clausePart s
+          → columns ≡ columnsOf (h .signals) n t → v ≡ toldWhole (verdict (inOrder (h .clauses) (clauseAt nodes clauses)) (traceOf n columns)) → after ≡ replicate (length words) 0
+          → Answered (Checked v) after
       unfolding wordsRefusal lowest clausesOf clauseIn nodesOf storedOf clauseAt
       check-verdict nodes clauses columns after v l en ec er ev ew =
           answered-as v after (at-words ∙ rw (le-leb leastWords (length words) l))
           (ev
-          ∙ ap (λ (σ : Trace). told (verdict (inOrder (h .clauses) (λ k. clauseOf (nodeAt nodes) (storedAt clauses k))) σ)) (told-accepted s t h n accepted cycled columns er)
-          ∙ ap (λ (x : List ℕ). told (verdict (inOrder (h .clauses) (λ k. clauseOf (nodeAt x) (storedAt clauses k))) (cyclesOf t))) en
-          ∙ ap (λ (x : List ℕ). told (verdict (inOrder (h .clauses) (λ k. clauseOf (nodeAt (nodePart s)) (storedAt x k))) (cyclesOf t))) ec
-          ∙ ap (λ (g : Header). told (verdict (inOrder (g .clauses) (λ k. clauseOf (nodeAt (nodePart s)) (storedAt (clausePart s) k))) (cyclesOf t))) (sym same))
+          ∙ ap (λ (σ : Trace). toldWhole (verdict (inOrder (h .clauses) (λ k. clauseOf (nodeAt nodes) (storedAt clauses k))) σ)) (told-accepted s t h n accepted cycled columns er)
+          ∙ ap (λ (x : List ℕ). toldWhole (verdict (inOrder (h .clauses) (λ k. clauseOf (nodeAt x) (storedAt clauses k))) (cyclesOf t))) en
+          ∙ ap (λ (x : List ℕ). toldWhole (verdict (inOrder (h .clauses) (λ k. clauseOf (nodeAt (nodePart s)) (storedAt x k))) (cyclesOf t))) ec
+          ∙ ap (λ (g : Header). toldWhole (verdict (inOrder (g .clauses) (λ k. clauseOf (nodeAt (nodePart s)) (storedAt (clausePart s) k))) (cyclesOf t))) (sym same))
           ew
 
 -- ---- the clauses of an accepted sheet

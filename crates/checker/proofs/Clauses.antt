@@ -3,12 +3,12 @@ use Prim.Native.Nat.{ℕ, zero, suc, _-_, _≤_, _<_}
 use native.Mathlib.Omega.{arith}
 use mathlib.Core.Bool.{false}
 use mathlib.Core.List.{List, [], _∷_}
-use mathlib.Core.Path.{_≡_, refl, sym, ap, subst, _∙_}
+use mathlib.Core.Path.{_≡_, refl, sym, ap, ap₂, subst, _∙_}
 use lib.ListN.{length}
 use Rattle.semantics.specs.Proposition.{Trace, bit}
 use Rattle.semantics.specs.Placement.{somePlacement}
 use Rattle.semantics.specs.Clause.{Clause, breaks}
-use Rattle.semantics.specs.Verdict.{verdict}
+use Rattle.semantics.specs.Verdict.{findingOf, adviceOf, verdict}
 use Rattle.stored.specs.declared.StoredClause.{StoredClause}
 use Rattle.traces.specs.Columns.{traceOf}
 use Rattle.stored.specs.Node.{nodeAt}
@@ -26,8 +26,8 @@ use Rattle.intervals.specs.Places.{places, numbered, IsLeast}
 use Rattle.places.specs.Task.{taskOf, missedTask}
 use Rattle.places.specs.Laid.{Laid, Formulas, Walkable, missedOn, overLast}
 use Rattle.places.proofs.Tasks.{task-least}
-use Rattle.checker.specs.declared.check.Answer.{Answer}
-use Rattle.checker.specs.Check.{told}
+use Rattle.checker.specs.declared.check.Finding.{Finding}
+use Rattle.checker.specs.Check.{told, toldWhole}
 use Rattle.checker.specs.Clauses.{Sound}
 
 -- every name on cycle 0
@@ -52,10 +52,14 @@ first-laid {columns = columns} {words′ = words′} {n = n} g r e t same =
       told = rw e (names-told columns (0 ∷ 0 ∷ 0 ∷ []) (g .columned .all) n);
     }
 
--- a verdict over the trace that was told before
-pub verdict-again : {nodes reach columns words : List ℕ} {count n : ℕ} {σ : Trace} {v : Answer} → Laid nodes count n reach σ columns words → (cs : List Clause)
-    → v ≡ told (verdict cs (traceOf n columns)) → v ≡ told (verdict cs σ)
-verdict-again l cs e = e ∙ ap (λ (τ : Trace). told (verdict cs τ)) (l .told)
+-- a verdict of the finding and the advice over the trace that was told before
+pub verdict-again : {nodes reach columns columns′ words words′ : List ℕ} {count n advice : ℕ} {σ : Trace} {finding : Finding}
+    → Laid nodes count n reach σ columns words → Laid nodes count n reach (traceOf n columns) columns′ words′ → (cs : List Clause)
+    → advice ≡ adviceOf cs (traceOf n columns) → finding ≡ told (findingOf cs (traceOf n columns′)) → record { finding = finding; advice = advice } ≡ toldWhole (verdict cs σ)
+unfolding toldWhole verdict
+verdict-again {columns = columns} {n = n} l l′ cs a f =
+    ap₂ (λ (x : Finding) (y : ℕ). record { finding = x; advice = y }) (f ∙ ap (λ (τ : Trace). told (findingOf cs τ)) (l′ .told)) a
+    ∙ ap (λ (τ : Trace). toldWhole (verdict cs τ)) (l .told)
 
 module _ {nodes reach columns words : List ℕ} {count n : ℕ} (l : Laid nodes count n reach (traceOf n columns) columns words) where
   pub short-trace : length (traceOf n columns) ≤ 64

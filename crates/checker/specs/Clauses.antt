@@ -16,8 +16,8 @@ use Rattle.intervals.specs.Places.{places, numbered, IsLeast}
 use Rattle.places.specs.Task.{taskOf}
 use Rattle.places.specs.Laid.{Formulas}
 use Rattle.checker.specs.declared.check.Place.{Place}
-use Rattle.checker.specs.declared.check.Failing.{Failing}
-use Rattle.checker.specs.declared.check.Failing.the-variants.{At, Nothing}
+use Rattle.checker.specs.declared.failing.Failing.{Failing}
+use Rattle.checker.specs.declared.failing.Failing.the-variants.{At, Nothing}
 
 -- a stored clause that the check takes
 pub record Sound (nodes : List ℕ) (count : ℕ) (d : StoredClause) : Type 0 where

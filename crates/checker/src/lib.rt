@@ -1,3 +1,4 @@
-// The check and its verdict; the table.
+// The check and its verdict, the clauses that fail; the table.
 pub mod check;
+pub mod failing;
 pub mod table;

@@ -6,7 +6,7 @@ use mathlib.Core.Logic.{inl, inr}
 use mathlib.Core.Path.{_≡_, refl, sym, _∙_, ap, ap₂, subst}
 use native.Mathlib.Numerals.{add-one}
 use native.Mathlib.Omega.{arith}
-use borrow.Author.Tests.{eqb-true, eqb-false, eq-eqb}
+use borrow.Author.Tests.{eqb-true, eqb-false, eq-eqb, ne-eqb}
 use lib.Dec.{eqb}
 use lib.ListN.{length, getD, set, take}
 use lib.Seq.{getD-set-same, getD-set-other, take-suc, take-all}
@@ -21,17 +21,18 @@ use Rattle.stored.specs.declared.StoredClause.{StoredClause}
 use Rattle.stored.specs.Node.{nodeAt}
 use Rattle.stored.specs.Tree.{formulaAt}
 use Rattle.stored.specs.Reach.{entryOf}
-use Rattle.stored.specs.Clause.{storedAt, roleOf, partOf, clauseOf}
+use Rattle.stored.specs.Clause.{storedAt, lastRole, roleOf, partOf, clauseOf}
 use Rattle.stored.specs.Sheet.{headerOf}
 use Rattle.stored.proofs.Rules.{length-inOrder, getD-inOrder}
+use Rattle.stored.proofs.Roles.{same-role}
 use Rattle.stored.proofs.Accepted.{PartKept, ClauseKept, clause-kept}
 use Rattle.plans.specs.Emission.{count, Step, Has, Emits, Ready}
-use Rattle.plans.specs.Plan.{node, opOr, opNot, Put, Wrote}
+use Rattle.plans.specs.Plan.{node, opOr, opNot, Put}
 use Rattle.emission.specs.Copying.{Mapped, copyCosts}
 use Rattle.plans.proofs.Steps.{stay, steps, wider, has-kept, put-place}
 use Rattle.plans.proofs.Nodes.{or-new, not-new}
 use Rattle.plans.proofs.Plans.{Tells, told}
-use Rattle.clauses.specs.Clauses.{ClausesIn, brokenIn, clauseAt, clausesAt, clauseCost, requirementCost}
+use Rattle.clauses.specs.Clauses.{ClausesIn, sideCount, brokenIn, JoinedBy, passed, joined, clauseAt, clausesAt, clauseCost, requirementCost}
 use Rattle.clauses.proofs.Names.{mask-inside}
 use Rattle.clauses.proofs.Broken.{broken-told}
 
@@ -98,27 +99,26 @@ joined-bound c (suc (suc (suc (suc m)))) h l = absurd (omega arith)
 -- ---- the first k clauses joined: node j of the sides is the formula of role j's
 pub record Joined (cs : List Clause) (x : List ℕ) (k : ℕ) (y sides : List ℕ) : Type 0 where
   pub step : Step x y (k * clauseCost (headerOf x .names))
-  pub two : length sides ≡ 2
-  pub has : (j : ℕ) → j < 2 → Has y (getD sides j 0) (joinBroken (roleOf j) nothing (take k cs))
+  pub two : length sides ≡ sideCount
+  pub has : (j : ℕ) → j < sideCount → Has y (getD sides j 0) (joinBroken (roleOf j) nothing (take k cs))
 
 pub joined-start : {x : List ℕ} (cs : List Clause) → Ready x → Joined cs x 0 x (2 ∷ 2 ∷ [])
 unfolding joinBroken
 joined-start {x} cs ready = record { step = wider _ (omega arith) (stay (ready .good)); two = refl; has = is }
   where
-    is : (j : ℕ) → j < 2 → Has x (getD (2 ∷ 2 ∷ []) j 0) nothing
+    is : (j : ℕ) → j < sideCount → Has x (getD (2 ∷ 2 ∷ []) j 0) nothing
     is zero l = ready .never
     is (suc zero) l = ready .never
     is (suc (suc j)) l = absurd (omega arith)
 
-role-two : (r : ℕ) → r < 2 → (j : ℕ) → j < 2 → sameRole (roleOf j) (roleOf r) ≡ eqb j r
-unfolding roleOf sameRole
-role-two zero h zero l = refl
-role-two zero h (suc zero) l = refl
-role-two (suc zero) h zero l = refl
-role-two (suc zero) h (suc zero) l = refl
-role-two zero h (suc (suc j)) l = absurd (omega arith)
-role-two (suc zero) h (suc (suc j)) l = absurd (omega arith)
-role-two (suc (suc r)) h j l = absurd (omega arith)
+-- the stored clause's formula beside those before it is the clause's
+is-clause : (nodes clauses : List ℕ) (c k : ℕ) (d : StoredClause) → d ≡ storedAt clauses k
+    → disjunction (joinBroken (roleOf (d .role)) nothing (take k (clausesAt nodes clauses c))) (brokenClause (clauseOf (nodeAt nodes) d))
+    ≡ disjunction (joinBroken (roleOf (d .role)) nothing (take k (clausesAt nodes clauses c))) (brokenClause (clauseAt nodes clauses k))
+unfolding clauseAt
+is-clause nodes clauses c k d read =
+    let earlier = joinBroken (roleOf (d .role)) nothing (take k (clausesAt nodes clauses c)) in
+    ap (λ (o : StoredClause). disjunction earlier (brokenClause (clauseOf (nodeAt nodes) o))) read
 
 -- formula f of the earlier clauses, with clause c joined where it is of the role
 withLast : Bool → Formula → Clause → Formula
@@ -140,46 +140,57 @@ module _ (cs : List Clause) (k : ℕ) (c : Clause) (inside : k < length cs) (is 
       ∙ join-snoc r nothing (take k cs) c
       ∙ ap (λ (z : Bool). withLast z (joinBroken r nothing (take k cs)) c) e)
 
-  joined-one : {x y w sides : List ℕ} {r j : ℕ} (role : ℕ) → role < 2 → c .role ≡ roleOf role → Joined cs x k y sides
-      → Step x w ((k + 1) * clauseCost (headerOf x .names)) → Step y w j
-      → Has w r (disjunction (joinBroken (roleOf role) nothing (take k cs)) (brokenClause c)) → Joined cs x (k + 1) w (set sides role r)
-  unfolding hasRole withLast
-  joined-one {w = w} {sides = sides} {r = r} role small roled h all s new =
-      record {
-        step = all;
-        two = lib.ListN.length-set sides role r ∙ h .two;
-        has =
-            λ j l. elim (test (eqb j role)) [
-              | inl q ↦ let e = eqb-true j role q in
-                  subst (λ (i : ℕ). Has w (getD (set sides role r) i 0) (joinBroken (roleOf i) nothing (take (k + 1) cs))) (sym e)
-                  (has-as _ (sym (getD-set-same sides role r 0 (omega (arith, h .two))))
-                  (join-one (roleOf role) true (of role small ∙ eq-eqb role role refl)) new)
-              | inr q ↦ has-as _ (sym (getD-set-other sides role j r 0 (eqb-false j role q))) (join-one (roleOf j) false (of j l ∙ q)) (has-kept s (h .has j l))
-            ];
-      }
-    where
-      of : (j : ℕ) → j < 2 → sameRole (roleOf j) (c .role) ≡ eqb j role
-      of j l = ap (sameRole (roleOf j)) roled ∙ role-two role small j l
+  module _ {x y sides : List ℕ} (role : ℕ) (small : role ≤ lastRole) (roled : c .role ≡ roleOf role) (h : Joined cs x k y sides) where
+    of : (j : ℕ) → j < sideCount → hasRole (roleOf j) c ≡ eqb j role
+    unfolding hasRole
+    of j l = ap (sameRole (roleOf j)) roled ∙ same-role j role (omega arith) small
+
+    -- the clause is joined to its side
+    joined-one : {w : List ℕ} {r j : ℕ} → role < sideCount → Step x w ((k + 1) * clauseCost (headerOf x .names)) → Step y w j
+        → Has w r (disjunction (joinBroken (roleOf role) nothing (take k cs)) (brokenClause c)) → Joined cs x (k + 1) w (set sides role r)
+    unfolding withLast
+    joined-one {w} {r} side all s new =
+        record {
+          step = all;
+          two = lib.ListN.length-set sides role r ∙ h .two;
+          has =
+              λ j l. elim (test (eqb j role)) [
+                | inl q ↦ let e = eqb-true j role q in
+                    subst (λ (i : ℕ). Has w (getD (set sides role r) i 0) (joinBroken (roleOf i) nothing (take (k + 1) cs))) (sym e)
+                    (has-as _ (sym (getD-set-same sides role r 0 (omega (arith, h .two))))
+                    (join-one (roleOf role) true (of role side ∙ eq-eqb role role refl)) new)
+                | inr q ↦ has-as _ (sym (getD-set-other sides role j r 0 (eqb-false j role q))) (join-one (roleOf j) false (of j l ∙ q)) (has-kept s (h .has j l))
+              ];
+        }
+
+    -- advice has none
+    joined-over : sideCount ≤ role → Joined cs x (k + 1) y sides
+    unfolding withLast
+    joined-over large =
+        record {
+          step = wider _ (omega (arith, joined-cost k (headerOf x .names))) (h .step);
+          two = h .two;
+          has = λ j l. has-as _ refl (join-one (roleOf j) false (of j l ∙ ne-eqb j role (λ e. omega arith))) (h .has j l);
+        }
 
 -- one clause more
-pub joined-next : {x y z w sides : List ℕ} {n c b r : ℕ} (map nodes clauses : List ℕ) (k : ℕ) (d : StoredClause) → Ready x → count x ≤ 777
+pub joined-next : {x y w sides sides′ : List ℕ} {n c : ℕ} (map nodes clauses : List ℕ) (k : ℕ) (d : StoredClause) → Ready x → count x ≤ 777
     → ClausesIn x nodes n clauses c → Mapped (nodeAt nodes) n x map → k < c → d ≡ storedAt clauses k → Joined (clausesAt nodes clauses c) x k y sides
-    → Wrote y z b (brokenIn map d) → Put (node opOr 0 (getD sides (d .role) 0) b) z w r
-    → Joined (clausesAt nodes clauses c) x (k + 1) w (set sides (d .role) r)
-unfolding clauseAt
-joined-next {x} {y} {z} {w} {sides} {n} {c} {b} map nodes clauses k d ready low sheet mapped less read h wrote put =
+    → JoinedBy map d y w sides sides′ → Joined (clausesAt nodes clauses c) x (k + 1) w sides′
+joined-next {n = n} {c} map nodes clauses k d ready low sheet mapped less read h (passed large) =
+    let kept = clause-known sheet k less read in
+    joined-over (clausesAt nodes clauses c) k (clauseAt nodes clauses k) (omega (arith, clauses-length nodes clauses c)) (clauses-at nodes clauses c k less)
+    (d .role) (kept .role-most) (clause-role nodes clauses k d read) h large
+joined-next {x} {y} {w} {n = n} {c} map nodes clauses k d ready low sheet mapped less read h (joined {y = z} {b = b} side wrote put) =
     let m = headerOf x .names in
     let kept = clause-known sheet k less read in
-    let role : d .role < 2 = omega (arith, kept .role-most) in
     let cost = joined-cost k m in
     let most = joined-most (k + 1) m (omega (arith, sheet .few)) (ready .good .few-names) in
     let e = clause-told map (nodeAt nodes) n d mapped kept ready y z b _ (h .step) (omega (arith, h .step .few)) wrote in
-    let o = or-new (e .step .good) (omega (arith, h .step .few, e .step .few)) (has-kept (e .step) (h .has (d .role) role)) (e .has) put in
+    let o = or-new (e .step .good) (omega (arith, h .step .few, e .step .few)) (has-kept (e .step) (h .has (d .role) side)) (e .has) put in
     let s = steps (e .step) (o .step) in
-    let earlier = joinBroken (roleOf (d .role)) nothing (take k (clausesAt nodes clauses c)) in
-    let is = ap (λ (o : StoredClause). disjunction earlier (brokenClause (clauseOf (nodeAt nodes) o))) read in
     joined-one (clausesAt nodes clauses c) k (clauseAt nodes clauses k) (omega (arith, clauses-length nodes clauses c)) (clauses-at nodes clauses c k less)
-    (d .role) role (clause-role nodes clauses k d read) h (wider _ (omega arith) (steps (h .step) s)) s (has-as _ refl is (o .has))
+    (d .role) (kept .role-most) (clause-role nodes clauses k d read) h side (wider _ (omega arith) (steps (h .step) s)) s (has-as _ refl (is-clause nodes clauses c k d read) (o .has))
 
 -- all joined, and the root, after the nodes of the sheet
 pub joined-done : {x₀ x y z w sides : List ℕ} {t r : ℕ} (nodes clauses : List ℕ) (n k c : ℕ) → k ≡ c → c ≤ 8
@@ -200,5 +211,5 @@ joined-done {x₀} {x} {y} {sides = sides} nodes clauses n k c full few copy low
     all : length (clausesAt nodes clauses c) ≤ k
     all = omega (arith, clauses-length nodes clauses c)
 
-    whole : (j : ℕ) → j < 2 → Has y (getD sides j 0) (joinBroken (roleOf j) nothing (clausesAt nodes clauses c))
+    whole : (j : ℕ) → j < sideCount → Has y (getD sides j 0) (joinBroken (roleOf j) nothing (clausesAt nodes clauses c))
     whole j l = has-as _ refl (ap (joinBroken (roleOf j) nothing) (take-all k (clausesAt nodes clauses c) all)) (h .has j l)

@@ -3,7 +3,7 @@ use Prim.Native.Nat.{ℕ, _+_, _*_, _≤_, _<_}
 use mathlib.Core.Bool.{true}
 use mathlib.Core.List.{List}
 use mathlib.Core.Path.{_≡_}
-use lib.ListN.{length}
+use lib.ListN.{length, getD, set}
 use Rattle.semantics.specs.Proposition.{bit}
 use Rattle.semantics.specs.Formula.{Formula, at}
 use Rattle.semantics.specs.Clause.{Clause}
@@ -15,6 +15,7 @@ use Rattle.stored.specs.Node.{nodeAt}
 use Rattle.stored.specs.Reach.{entryOf}
 use Rattle.stored.specs.Clause.{storedAt, clauseRight, clauseNamed, typeOf, clauseOf}
 use Rattle.stored.specs.Sheet.{headerOf}
+use Rattle.plans.specs.Plan.{node, opOr, Put, Wrote}
 use Rattle.emission.specs.Copying.{copyCosts}
 
 -- the clauses of a sheet that rules 8 and 9 take
@@ -24,6 +25,10 @@ pub record ClausesIn (y : List ℕ) (nodes : List ℕ) (n : ℕ) (clauses : List
   pub right : (k : ℕ) → k < c → clauseRight (nodeAt nodes) n (storedAt clauses k) ≡ true
   pub named : (k : ℕ) → k < c → clauseNamed (nodeAt nodes) (headerOf y .names) (storedAt clauses k) ≡ true
 
+-- the roles that the formula speaks of: assumption and commitment
+abbrev pub sideCount : ℕ
+sideCount = 2
+
 -- the plan of a clause, over the copies: "it is broken"
 unfoldable pub brokenIn : List ℕ → StoredClause → Formula
 brokenIn map d =
@@ -31,6 +36,12 @@ brokenIn map d =
     (at (entryOf map (d .root1))) (bit (d .mask1))
     (at (entryOf map (d .root2))) (bit (d .mask2))
     (at (entryOf map (d .root3))) (bit (d .mask3))
+
+-- x became y by a clause: its plan is joined to the formula on the side of its role; advice has no side and is passed over
+pub data JoinedBy (map : List ℕ) (d : StoredClause) : List ℕ → List ℕ → List ℕ → List ℕ → Type 0 where
+  passed : {x sides : List ℕ} → sideCount ≤ d .role → JoinedBy map d x x sides sides
+  joined : {x y z sides : List ℕ} {b r : ℕ} → d .role < sideCount → Wrote x y b (brokenIn map d) → Put (node opOr 0 (getD sides (d .role) 0) b) y z r
+      → JoinedBy map d x z sides (set sides (d .role) r)
 
 -- clause k of the parts of a sheet, and all of them
 unfoldable pub clauseAt : List ℕ → List ℕ → ℕ → Clause

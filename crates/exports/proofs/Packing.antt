@@ -19,6 +19,8 @@ use Rattle.stored.specs.Emitted.{isEmitted, emittedCounted}
 use Rattle.stored.proofs.Accepted.{opened, sheet-small}
 use Rattle.stored.proofs.Emitted.{emitted-opened}
 use Rattle.checker.specs.declared.check.Place.{Place}
+use Rattle.checker.specs.declared.check.Finding.{Finding}
+use Rattle.checker.specs.declared.check.Finding.the-variants as finding
 use Rattle.stored.specs.Output.{writeNumber, writtenLength}
 use Rattle.translator.specs.Refusal.{translateRefusal}
 use Rattle.plans.specs.Bound.{drawingAt, drawings, nodeBound}
@@ -26,10 +28,10 @@ use Rattle.translator.specs.Translated.{Translated}
 use Rattle.text.specs.Text.{ReadText}
 use Rattle.text.proofs.Text.{written-fits, refused-small}
 use Rattle.translator.proofs.Translating.{number-told}
-use Rattle.checker.specs.Small.{SmallPlace}
-use Rattle.exports.specs.Packed.{packedPlace, packedWriting, unpackedWriting, SmallWriting}
+use Rattle.checker.specs.Small.{SmallPlace, SmallFinding}
+use Rattle.exports.specs.Packed.{packedPlace, packedFinding, findings, packedWriting, unpackedWriting, SmallWriting}
 
-pub place-small : (p : Place) → SmallPlace p → packedPlace p < 100000000
+pub place-small : (p : Place) → SmallPlace p → packedPlace p < 2097152
 unfolding packedPlace
 place-small p s =
     let a = s .0 in
@@ -37,6 +39,13 @@ place-small p s =
     let c = s .2 in
     let d = s .3 in
     omega arith
+
+-- a finding takes no more than the lower half of a number
+pub finding-small : (f : Finding) → SmallFinding f → packedFinding f < findings
+unfolding packedFinding
+finding-small (finding.Excused clause) h = omega (arith, h)
+finding-small (finding.Broken p) h = omega (arith, place-small p h)
+finding-small finding.Holds h = omega arith
 
 -- ---- the answer of an operation that writes a sheet
 pub unpacked : (a : WriteAnswer) → unpackedWriting (packedWriting a) ≡ a

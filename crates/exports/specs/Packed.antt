@@ -1,4 +1,4 @@
--- An answer as one number, its tag and 256 times its value; and a table in lent rows.
+-- An answer as one number, its tag and 256 times its value, and the advice above them; and a table in lent rows.
 use Prim.Native.Nat.{ℕ, _+_, _*_, _/_, _%_, _≤_}
 use mathlib.Core.Bool.{cond, _&&_}
 use mathlib.Core.List.{List, [], _∷_, _++_}
@@ -12,29 +12,41 @@ use Rattle.stored.specs.Sheet.{headerOf, nodesOf, sheetRefusal}
 use Rattle.traces.specs.Trace.{cycleCount, cyclesOf, traceRefusal}
 use Rattle.stored.specs.Tree.{pick}
 use Rattle.checker.specs.declared.check.Place.{Place}
+use Rattle.checker.specs.declared.check.Finding.{Finding}
+use Rattle.checker.specs.declared.check.Finding.the-variants.{Excused, Broken, Holds}
 use Rattle.checker.specs.declared.check.Answer.{Answer}
-use Rattle.checker.specs.declared.check.Answer.the-variants.{Refused, Excused, Broken, Holds}
+use Rattle.checker.specs.declared.check.Answer.the-variants.{Refused, Checked}
 use Rattle.checker.specs.Table.{placementOf, tableOf, nodeRefusal, orElse}
 
 -- a clause's number and its three cycles as one number, 6 bits a cycle
 unfoldable pub packedPlace : Place → ℕ
 packedPlace p = p .clause * 262144 + p .i * 4096 + p .j * 64 + p .k
 
--- the check's answer: tag 0 and the refusal's number, 1 and the clause, 2 and the place, 3 and 0
+-- a finding: tag 1 and the clause, 2 and the place, 3 and 0
+unfoldable pub packedFinding : Finding → ℕ
+packedFinding (Excused clause) = 1 + clause * 256
+packedFinding (Broken p) = 2 + packedPlace p * 256
+packedFinding Holds = 3
+
+-- the numbers of a finding are below it; the advice stands above them
+abbrev pub findings : ℕ
+findings = 4294967296
+
+-- the check's answer: tag 0 and the refusal's number, or the finding with the advice above it
 unfoldable pub packed : Answer → ℕ
 packed (Refused number) = number * 256
-packed (Excused clause) = 1 + clause * 256
-packed (Broken p) = 2 + packedPlace p * 256
-packed Holds = 3
+packed (Checked v) = packedFinding (v .finding) + v .advice * findings
 
 -- and back: what a caller reads in the number
 unfoldable pub unpackedPlace : ℕ → Place
 unpackedPlace v = record { clause = v / 262144; i = v / 4096 % 64; j = v / 64 % 64; k = v % 64 }
 
+unfoldable pub unpackedFinding : ℕ → Finding
+unpackedFinding r = pick (eqb (r % 256) 1) (Excused (r / 256)) (pick (eqb (r % 256) 2) (Broken (unpackedPlace (r / 256))) Holds)
+
 unfoldable pub unpacked : ℕ → Answer
 unpacked r =
-    pick (eqb (r % 256) 0) (Refused (r / 256))
-    (pick (eqb (r % 256) 1) (Excused (r / 256)) (pick (eqb (r % 256) 2) (Broken (unpackedPlace (r / 256))) Holds))
+    pick (eqb (r % 256) 0) (Refused (r / 256)) (Checked (record { finding = unpackedFinding (r % findings); advice = r / findings }))
 
 -- the answer of an operation that writes a sheet: tag 0 and the refusal's number, 4 and the length of the sheet written
 unfoldable pub packedWriting : WriteAnswer → ℕ

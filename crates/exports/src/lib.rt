@@ -1,6 +1,8 @@
 // The check, the table, the translator and the reader of typed sheets for programs in Rust and C: over numbers and slices only, and with nothing to ask of the caller.
 use checker::check::Answer;
+use checker::check::Finding;
 use checker::check::Place;
+use checker::check::Verdict;
 use checker::check::check;
 use checker::table::TableAnswer;
 use checker::table::table;
@@ -17,8 +19,12 @@ ghost use Rattle.checker.specs.Check.{checkAnswer, checkRefusal};
 ghost use Rattle.checker.specs.Table.{orElse, wordsAfter};
 ghost use Rattle.translator.specs.Translated.{Translated};
 ghost use Rattle.text.specs.Text.{ReadText};
-ghost use Rattle.checker.specs.Small.{Small, SmallPlace};
-ghost use Rattle.exports.specs.Packed.{packedPlace, packed, unpacked, packedWriting, unpackedWriting, SmallWriting, packedTable, rowsRefusal, rowsOf, rowsAfter};
+ghost use Rattle.checker.specs.Small.{SmallPlace, SmallFinding, SmallVerdict, Small};
+ghost use Rattle.checker.specs.declared.check.Answer.the-variants.{Checked};
+ghost use Rattle.exports.specs.Packed.{packedPlace, packedFinding, findings, packed, unpacked, packedWriting, unpackedWriting, SmallWriting, packedTable, rowsRefusal, rowsOf, rowsAfter};
+
+// The numbers of a finding are below it.
+const FINDINGS: u64 = 4294967296;
 
 fn packed_place(place: Place) -> u64
     requires { ⌜ SmallPlace place ⌝ }
@@ -30,21 +36,41 @@ fn packed_place(place: Place) -> u64
         + (place.k as u64)
 }
 
-// The check's answer as its tag and 256 times its value.
+// A finding as its tag and 256 times its value.
+fn packed_finding(finding: Finding) -> u64
+    requires { ⌜ SmallFinding finding ⌝ }
+    ensures { λ r. ⌜ (r ≡ packedFinding finding) × (r < findings) ⌝ }
+{
+    match finding {
+        Finding::Excused(clause) => 1 + (clause as u64) * 256,
+        Finding::Broken(place) => 2 + packed_place(place) * 256,
+        Finding::Holds => 3,
+    }
+}
+
+// A finding in the lower half of a number, and the advice in the upper.
+fn packed_verdict(verdict: Verdict) -> u64
+    requires { ⌜ SmallVerdict verdict ⌝ }
+    ensures { λ r. ⌜ r ≡ packed (Checked verdict) ⌝ }
+{
+    let finding = verdict.finding;
+    packed_finding(finding) + (verdict.advice as u64) * FINDINGS
+}
+
+// The check's answer: 256 times the refusal's number, or its verdict.
 fn packed_answer(answer: Answer) -> u64
     requires { ⌜ Small answer ⌝ }
     ensures { λ r. ⌜ r ≡ packed answer ⌝ }
 {
     match answer {
         Answer::Refused(number) => (number as u64) * 256,
-        Answer::Excused(clause) => 1 + (clause as u64) * 256,
-        Answer::Broken(place) => 2 + packed_place(place) * 256,
-        Answer::Holds => 3,
+        Answer::Checked(verdict) => packed_verdict(verdict),
     }
 }
 
 // The verdict of a sheet on a trace: 256 times the refusal's number, 1 + 256 times the clause where it is EXCUSED,
-// 2 + 256 times the place where it is BROKEN, clause * 262144 + i * 4096 + j * 64 + k, and 3 where it HOLDS.
+// 2 + 256 times the place where it is BROKEN, clause * 262144 + i * 4096 + j * 64 + k, and 3 where it HOLDS; the upper half of a verdict's
+// number is its advice, with bit k set if clause k is advice and fails.
 // The lent words are all zero afterwards, or as they were where a refusal's number is the answer.
 #[no_mangle]
 pub extern "C" fn fasunqir_check(sheet: &[u8], trace: &[u8], words: &mut [u64]) -> u64

@@ -7,12 +7,13 @@ use native.Mathlib.Nat.{div-eq-of-lt, lt-of-lt-of-le, mul-assoc, mul-mod-left, p
 use native.Mathlib.Omega.{arith}
 use lib.Dec.{leb, eqb, eqb·suc-zero, eqb·suc-suc}
 use lib.Arith.{digits-mod}
-use lib.Pow.{pow-pos, pow-mono, pow-add, shr-shr, shl-shr, field, mod-mod-pow}
+use lib.Pow.{pow-pos, pow-mono, pow-add, shl-shr, field, mod-mod-pow}
 use lib.Bits.{bitAnd, bitOr, bitXor, differ, and-step, or-step, xor-step, and-shr, or-shr, xor-shr}
 use lib.Count.{ones, ones-step, under, trailingZeros}
 use borrow.Author.Tests.{leb-true, leb-false, eq-eqb, eqb-true, eqb-false}
 use Rattle.semantics.specs.Cycles.{countBelow}
 use Rattle.semantics.specs.Proposition.{bit}
+use Rattle.semantics.proofs.Bits.{bit-shr, bit-zero, bit-suc}
 use Rattle.semantics.proofs.Tests.{test, false-not, and-true-right, and-self}
 use Rattle.semantics.proofs.Cycles.{count-first, count-below-cong}
 
@@ -23,17 +24,6 @@ digit x =
       | inl e ↦ inl (eqb-true (x % 2) 0 e)
       | inr e ↦ (let d = eqb-false (x % 2) 0 e in inr (omega arith))
     ]
-
-pub bit-shr : (x j k : ℕ) → bit (x / 2 ^ j) k ≡ bit x (j + k)
-unfolding bit
-bit-shr x j k = ap (λ (y : ℕ). eqb (y % 2) 1) (shr-shr x j k)
-
-pub bit-zero : (x : ℕ) → bit x 0 ≡ eqb (x % 2) 1
-unfolding bit
-bit-zero x = let h : x / 1 ≡ x = omega arith in ap (λ (y : ℕ). eqb (y % 2) 1) h
-
-pub bit-suc : (x k : ℕ) → bit x (suc k) ≡ bit (x / 2) k
-bit-suc x k = let h : suc k ≡ 1 + k = omega arith in ap (bit x) h ∙ sym (bit-shr x 1 k)
 
 pub bit-above : (n x k : ℕ) → x < 2 ^ n → n ≤ k → bit x k ≡ false
 unfolding bit

@@ -1,5 +1,5 @@
 -- Laws of words and rows.
-use Prim.Native.Nat.{ℕ, zero, suc, _+_, _-_, _*_, _/_, _%_, _^_, _≤_, _<_}
+use Prim.Native.Nat.{ℕ, zero, suc, _+_, _-_, _^_, _≤_, _<_}
 use mathlib.Core.Bool.{Bool, true, false, not, cond, _&&_, _||_}
 use mathlib.Core.Logic.{inl, inr}
 use mathlib.Core.Path.{_≡_, refl, sym, ap, ap₂, _∙_}
@@ -12,7 +12,8 @@ use borrow.Author.Tests.{ltb-true, ltb-false, leb-true, lt-ltb, le-leb, eqb-true
 use Rattle.semantics.specs.Proposition.{bit}
 use Rattle.rows.specs.Row.{word, row, always}
 use Rattle.semantics.proofs.Tests.{same, test, false-not, both, and-left, and-right, and-false, or-left, or-right, or-elim}
-use Rattle.rows.proofs.Bits.{bit-zero, bit-suc, bit-above, bit-and, bit-or, bit-not, bit-nothing, same-bits}
+use Rattle.semantics.proofs.Bits.{bit-lowest, bit-higher}
+use Rattle.rows.proofs.Bits.{bit-above, bit-and, bit-or, bit-not, bit-nothing, same-bits}
 
 one-bit : (c : Bool) → cond c 1 0 < 2
 one-bit true = omega arith
@@ -30,19 +31,8 @@ word-small (suc n) p =
 pub word-bit : (n : ℕ) (p : ℕ → Bool) (k : ℕ) → k < n → bit (word n p) k ≡ p k
 unfolding word
 word-bit zero p k l = absurd (omega arith)
-word-bit (suc n) p zero l =
-    let d = one-bit (p 0) in
-    let r : (word n (λ k. p (suc k)) * 2 + cond (p 0) 1 0) % 2 ≡ cond (p 0) 1 0 = omega arith in
-    bit-zero (word n (λ k. p (suc k)) * 2 + cond (p 0) 1 0) ∙ ap (λ (x : ℕ). eqb x 1) r ∙ read (p 0)
-  where
-    read : (c : Bool) → eqb (cond c 1 0) 1 ≡ c
-    read true = refl
-    read false = refl
-word-bit (suc n) p (suc k) l =
-    let d = one-bit (p 0) in
-    let r : (word n (λ k. p (suc k)) * 2 + cond (p 0) 1 0) / 2 ≡ word n (λ k. p (suc k)) = omega arith in
-    bit-suc (word n (λ k. p (suc k)) * 2 + cond (p 0) 1 0) k ∙ ap (λ (x : ℕ). bit x k) r
-    ∙ word-bit n (λ k. p (suc k)) k (omega arith)
+word-bit (suc n) p zero l = bit-lowest (word n (λ k. p (suc k))) (p 0)
+word-bit (suc n) p (suc k) l = bit-higher (word n (λ k. p (suc k))) (p 0) k ∙ word-bit n (λ k. p (suc k)) k (omega arith)
 
 pub word-above : (n : ℕ) (p : ℕ → Bool) (k : ℕ) → n ≤ k → bit (word n p) k ≡ false
 word-above n p k l = bit-above n (word n p) k (word-small n p) l

@@ -1,6 +1,7 @@
 -- The theorems about the definitions of specs/, lowest first.
 pub mod Tests
 pub mod Names
+pub mod Bits
 pub mod Cycles
 pub mod Chains
 pub mod Examples
@@ -14,5 +15,6 @@ pub mod Ranges
 pub mod Joined
 pub mod Agreement
 pub mod Verdict
+pub mod Advice
 pub mod Reading
 pub mod Closed

@@ -8,7 +8,7 @@ use Rattle.semantics.specs.Proposition.{Trace, signal, name, negated, bi
 use Rattle.semantics.specs.Formula.{holds, compared, point, whole, chop, conjunction, slen, scount, at, equal, atLeast}
 use Rattle.semantics.specs.Placement.{Names, noNames, union, without, unplaced, marks, moved, placeName, somePlacement}
 use Rattle.semantics.specs.Clause.{Clause, triggers, commitment, on, given, shortest, unanswered, breaksAt, breaks, fails}
-use Rattle.semantics.specs.Verdict.{Holds, Broken, sameRole, hasRole, failsAs, firstPlace, excusedOr, brokenOr, verdict}
+use Rattle.semantics.specs.Verdict.{Holds, Broken, sameRole, hasRole, failsAs, firstPlace, excusedOr, brokenOr, findingOf}
 
 unfoldable pub onlyName : Names
 onlyName v = eqb v 0
@@ -35,10 +35,10 @@ abbrev late : Trace
 late = 0 ∷ 0 ∷ 1 ∷ 0 ∷ 0 ∷ 0 ∷ 0 ∷ 4 ∷ 2 ∷ 0 ∷ []
 
 pub record Staying : Type 0 where
-  pub holding : verdict (beforeLeaving ∷ []) inTime ≡ Holds
-  pub gone : verdict (beforeLeaving ∷ []) left ≡ Broken (record { clause = 0; i = 2; j = 3; k = 6 })
-  pub overdue : verdict (beforeLeaving ∷ []) late ≡ Broken (record { clause = 0; i = 2; j = 8; k = 6 })
+  pub holding : findingOf (beforeLeaving ∷ []) inTime ≡ Holds
+  pub gone : findingOf (beforeLeaving ∷ []) left ≡ Broken (record { clause = 0; i = 2; j = 3; k = 6 })
+  pub overdue : findingOf (beforeLeaving ∷ []) late ≡ Broken (record { clause = 0; i = 2; j = 8; k = 6 })
 
 pub staying : Staying
-unfolding onlyName someBelow someFrom firstBelow countBelow countFrom bit signalAt holdsAt compared holds noNames union without unplaced marks moved placeName somePlacement on given shortest unanswered breaksAt breaks fails sameRole hasRole failsAs firstPlace excusedOr brokenOr verdict
+unfolding onlyName someBelow someFrom firstBelow countBelow countFrom bit signalAt holdsAt compared holds noNames union without unplaced marks moved placeName somePlacement on given shortest unanswered breaksAt breaks fails sameRole hasRole failsAs firstPlace excusedOr brokenOr findingOf
 staying = record { holding = refl; gone = refl; overdue = refl }

@@ -1,4 +1,4 @@
--- The verdict and the requirement: Broken exactly when the requirement is false, with the first failing commitment and its first broken place;
+-- The finding and the requirement: Broken exactly when the requirement is false, with the first failing commitment and its first broken place;
 -- Excused with the first failing assumption.
 use Prim.Native.Nat.{ℕ, suc, _+_, _<_}
 use native.Mathlib.Omega.{arith}
@@ -10,11 +10,11 @@ use lib.ListN.{length}
 use Rattle.semantics.specs.Cycles.{someBelow, firstBelow}
 use Rattle.semantics.specs.Proposition.{Trace}
 use Rattle.semantics.specs.Clause.{Role, assumption, commitment, Clause, breaks, fails}
-use Rattle.semantics.specs.Verdict.{hasRole, failsAs, someFails, requirement, Place, Verdict, Excused, Broken, Holds, isBroken, firstPlace, excusedOr, brokenOr, verdict}
+use Rattle.semantics.specs.Verdict.{hasRole, failsAs, someFails, requirement, Place, Finding, Excused, Broken, Holds, isBroken, firstPlace, excusedOr, brokenOr, findingOf}
 use Rattle.semantics.proofs.Tests.{is-false, false-not, and-left, and-right}
 use Rattle.semantics.proofs.Cycles.{below-intro, first-least}
 
-excused-broken : (from : ℕ) (cs : List Clause) (σ : Trace) (v : Verdict)
+excused-broken : (from : ℕ) (cs : List Clause) (σ : Trace) (v : Finding)
     → isBroken (excusedOr from cs σ v) ≡ (not (someFails assumption cs σ) && isBroken v)
 unfolding excusedOr someFails isBroken
 excused-broken from [] σ v = refl
@@ -36,8 +36,8 @@ broken-broken from (c ∷ cs) σ = go (failsAs commitment σ c) (broken-broken (
     go false h = h
 
 -- Broken exactly when the requirement is false
-pub broken-exactly : (cs : List Clause) (σ : Trace) → isBroken (verdict cs σ) ≡ not (requirement cs σ)
-unfolding verdict requirement
+pub broken-exactly : (cs : List Clause) (σ : Trace) → isBroken (findingOf cs σ) ≡ not (requirement cs σ)
+unfolding findingOf requirement
 broken-exactly cs σ =
     excused-broken 0 cs σ (brokenOr 0 cs σ Holds)
     ∙ ap (λ (b : Bool). not (someFails assumption cs σ) && b) (broken-broken 0 cs σ)
@@ -88,7 +88,7 @@ there r from c cs σ number d h w =
 never : (n : ℕ) (p : Place) → Excused n ≡ Broken p → ⊥
 never n p h = let z : _≡_ {A = ℕ} 0 1 = cc in omega arith
 
-excused-from : (from : ℕ) (cs : List Clause) (σ : Trace) (v : Verdict) (n : ℕ) → (v ≡ Excused n → ⊥) → excusedOr from cs σ v ≡ Excused n
+excused-from : (from : ℕ) (cs : List Clause) (σ : Trace) (v : Finding) (n : ℕ) → (v ≡ Excused n → ⊥) → excusedOr from cs σ v ≡ Excused n
     → (c : Clause) × FirstFailing assumption from cs σ n c
 unfolding excusedOr
 excused-from from [] σ v n f h = absurd (f h)
@@ -111,8 +111,8 @@ broken-not-excused from (c ∷ cs) σ n h = go (failsAs commitment σ c) h (brok
     go false h f = f h
 
 -- Excused carries the first failing assumption
-pub excused-first : (cs : List Clause) (σ : Trace) (n : ℕ) → verdict cs σ ≡ Excused n → (c : Clause) × FirstFailing assumption 0 cs σ n c
-unfolding verdict
+pub excused-first : (cs : List Clause) (σ : Trace) (n : ℕ) → findingOf cs σ ≡ Excused n → (c : Clause) × FirstFailing assumption 0 cs σ n c
+unfolding findingOf
 excused-first cs σ n h = excused-from 0 cs σ (brokenOr 0 cs σ Holds) n (broken-not-excused 0 cs σ n) h
 
 -- i′, j′, k′ come before i, j, k
@@ -187,7 +187,7 @@ broken-from from (c ∷ cs) σ p h = go (failsAs commitment σ c) refl h (broken
         let w = f h in
         record { commitment-of = w .commitment-of; failing = there commitment from c cs σ (p .clause) (w .commitment-of) e (w .failing); place = w .place }
 
-excused-through : (from : ℕ) (cs : List Clause) (σ : Trace) (v : Verdict) (p : Place) → excusedOr from cs σ v ≡ Broken p → v ≡ Broken p
+excused-through : (from : ℕ) (cs : List Clause) (σ : Trace) (v : Finding) (p : Place) → excusedOr from cs σ v ≡ Broken p → v ≡ Broken p
 unfolding excusedOr
 excused-through from [] σ v p h = h
 excused-through from (c ∷ cs) σ v p h = go (failsAs assumption σ c) h (excused-through (suc from) cs σ v p)
@@ -197,6 +197,6 @@ excused-through from (c ∷ cs) σ v p h = go (failsAs assumption σ c) h (excus
     go true h f = absurd (never from p h)
     go false h f = f h
 
-pub broken-first : (cs : List Clause) (σ : Trace) (p : Place) → verdict cs σ ≡ Broken p → FirstBroken 0 cs σ p
-unfolding verdict
+pub broken-first : (cs : List Clause) (σ : Trace) (p : Place) → findingOf cs σ ≡ Broken p → FirstBroken 0 cs σ p
+unfolding findingOf
 broken-first cs σ p h = broken-from 0 cs σ p (excused-through 0 cs σ (brokenOr 0 cs σ Holds) p h)

@@ -17,8 +17,9 @@ pub record Part : Type 0 where
 pub data ClauseType : Type 0 where
   pref init anti implies follows triggers : ClauseType
 
+-- advice is a habit that is liked but not enforced (request 5)
 pub data Role : Type 0 where
-  assumption commitment : Role
+  assumption commitment advice : Role
 
 pub record Clause : Type 0 where
   pub type : ClauseType

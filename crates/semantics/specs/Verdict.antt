@@ -1,17 +1,22 @@
--- Document 01, "Clauses" (roles and the requirement) and "Verdicts and tables".
-use Prim.Native.Nat.{ℕ, suc}
+-- Document 01, "Clauses" (roles and the requirement) and "Verdicts and tables", and request 5: a verdict is a finding with advice beside it.
+use Prim.Native.Nat.{ℕ, suc, _+_, _*_}
 use mathlib.Core.Bool.{Bool, true, false, not, cond, _&&_, _||_}
 use mathlib.Core.List.{List, [], _∷_}
 use lib.ListN.{length}
 use Rattle.semantics.specs.Cycles.{someBelow, firstBelow}
 use Rattle.semantics.specs.Proposition.{Trace}
-use Rattle.semantics.specs.Clause.{Role, assumption, commitment, Clause, breaks, fails}
+use Rattle.semantics.specs.Clause.{Role, assumption, commitment, advice, Clause, breaks, fails}
 
 unfoldable pub sameRole : Role → Role → Bool
 sameRole assumption assumption = true
 sameRole assumption commitment = false
+sameRole assumption advice = false
 sameRole commitment assumption = false
 sameRole commitment commitment = true
+sameRole commitment advice = false
+sameRole advice assumption = false
+sameRole advice commitment = false
+sameRole advice advice = true
 
 unfoldable pub hasRole : Role → Clause → Bool
 hasRole r c = sameRole r (c .role)
@@ -35,12 +40,13 @@ pub record Place : Type 0 where
   pub j : ℕ
   pub k : ℕ
 
-pub data Verdict : Type 0 where
-  Excused : ℕ → Verdict
-  Broken : Place → Verdict
-  Holds : Verdict
+-- what a verdict says of the requirement
+pub data Finding : Type 0 where
+  Excused : ℕ → Finding
+  Broken : Place → Finding
+  Holds : Finding
 
-unfoldable pub isBroken : Verdict → Bool
+unfoldable pub isBroken : Finding → Bool
 isBroken (Excused n) = false
 isBroken (Broken p) = true
 isBroken Holds = false
@@ -55,14 +61,26 @@ firstPlace clause n broken =
 
 -- Excused with the first failing assumption; else Broken at the first failing commitment's first place; else Holds.
 -- `from` is the number of the list's first clause.
-unfoldable pub excusedOr : ℕ → List Clause → Trace → Verdict → Verdict
+unfoldable pub excusedOr : ℕ → List Clause → Trace → Finding → Finding
 excusedOr from [] σ otherwise = otherwise
 excusedOr from (c ∷ cs) σ otherwise = cond (failsAs assumption σ c) (Excused from) (excusedOr (suc from) cs σ otherwise)
 
-unfoldable pub brokenOr : ℕ → List Clause → Trace → Verdict → Verdict
+unfoldable pub brokenOr : ℕ → List Clause → Trace → Finding → Finding
 brokenOr from [] σ otherwise = otherwise
 brokenOr from (c ∷ cs) σ otherwise =
     cond (failsAs commitment σ c) (Broken (firstPlace from (length σ) (breaks c σ))) (brokenOr (suc from) cs σ otherwise)
 
+unfoldable pub findingOf : List Clause → Trace → Finding
+findingOf cs σ = excusedOr 0 cs σ (brokenOr 0 cs σ Holds)
+
+-- request 5's byte: bit k is set exactly if clause k is advice and fails
+unfoldable pub adviceOf : List Clause → Trace → ℕ
+adviceOf [] σ = 0
+adviceOf (c ∷ cs) σ = adviceOf cs σ * 2 + cond (failsAs advice σ c) 1 0
+
+pub record Verdict : Type 0 where
+  pub finding : Finding
+  pub advice : ℕ
+
 unfoldable pub verdict : List Clause → Trace → Verdict
-verdict cs σ = excusedOr 0 cs σ (brokenOr 0 cs σ Holds)
+verdict cs σ = record { finding = findingOf cs σ; advice = adviceOf cs σ }

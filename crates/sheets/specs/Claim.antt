@@ -9,25 +9,28 @@ use Rattle.stored.specs.Sheet.{headerOf, requirementOf}
 use Rattle.traces.specs.Trace.{cyclesOf}
 use Rattle.stored.specs.Emitted.{isEmitted, emittedTrue}
 use Rattle.checker.specs.declared.check.Answer.{Answer}
-use Rattle.checker.specs.declared.check.Answer.the-variants.{Refused, Excused, Broken, Holds}
+use Rattle.checker.specs.declared.check.Answer.the-variants.{Refused, Checked}
+use Rattle.checker.specs.declared.check.Finding.{Finding}
+use Rattle.checker.specs.declared.check.Finding.the-variants.{Excused, Broken, Holds}
 use Rattle.checker.specs.Check.{checkRefusal}
 use Rattle.stored.specs.declared.WriteAnswer.{WriteAnswer}
 use Rattle.stored.specs.Output.{writtenLength}
 use Rattle.translator.specs.Refusal.{translateRefusal}
 use Rattle.plans.specs.Bound.{nodeBound}
 
--- the check says Broken; it says another verdict
+unfoldable pub isBroken : Finding → Bool
+isBroken (Excused clause) = false
+isBroken (Broken place) = true
+isBroken Holds = false
+
+-- the check says Broken; it says another verdict. Advice beside it says nothing of the requirement.
 unfoldable pub saysBroken : Answer → Bool
 saysBroken (Refused number) = false
-saysBroken (Excused clause) = false
-saysBroken (Broken place) = true
-saysBroken Holds = false
+saysBroken (Checked v) = isBroken (v .finding)
 
 unfoldable pub saysOther : Answer → Bool
 saysOther (Refused number) = false
-saysOther (Excused clause) = true
-saysOther (Broken place) = false
-saysOther Holds = true
+saysOther (Checked v) = not (isBroken (v .finding))
 
 -- the bytes that were written: the formula is what they say
 unfoldable pub written : List ℕ → WriteAnswer → List ℕ

@@ -20,7 +20,7 @@ use Rattle.stored.specs.declared.SheetAnswer.the-variants.{Accepted, Ref
 use Rattle.stored.specs.Bytes.{inOrder}
 use Rattle.stored.specs.Node.{requirementSorts, isFormulaNode, nodeRight}
 use Rattle.stored.specs.Tree.{pick, formulaAt}
-use Rattle.stored.specs.Clause.{partsUsed, partRight, clauseRight, partNamed, clauseNamed, clauseRightAt, clauseNamedAt, typeOf, partOf, clauseOf}
+use Rattle.stored.specs.Clause.{lastRole, partsUsed, partRight, clauseRight, partNamed, clauseNamed, clauseRightAt, clauseNamedAt, typeOf, partOf, clauseOf}
 use Rattle.stored.specs.Sheet.{headerOf, nodePart, clausePart, nodesOf, storedOf, counted, sized, nodesRight, operandsFound, clausesRight, clausesNamed, sheetRules, sheetRefusal, sheetAnswer, sheetNumber, clauseIn, clausesOf}
 use Rattle.semantics.proofs.Tests.{and-left, and-right, and-intro}
 use Rattle.stored.proofs.Rules.{every-at, lowest-kept, Lowest, lowest-law}
@@ -157,7 +157,7 @@ part-kept x n m false root mask e f =
 pub record ClauseKept (x : ℕ → Node) (n m : ℕ) (d : StoredClause) : Type 0 where
   pub type-least : 1 ≤ d .«clause_type»
   pub type-most : d .«clause_type» ≤ 6
-  pub role-most : d .role ≤ 1
+  pub role-most : d .role ≤ lastRole
   pub part1 : PartKept x n m (ltb 0 (partsUsed (d .«clause_type»))) (d .root1) (d .mask1)
   pub part2 : PartKept x n m (ltb 1 (partsUsed (d .«clause_type»))) (d .root2) (d .mask2)
   pub part3 : PartKept x n m (ltb 2 (partsUsed (d .«clause_type»))) (d .root3) (d .mask3)
@@ -168,7 +168,7 @@ clause-kept x n m d e f =
     let u = partsUsed (d .«clause_type») in
     let range = and-left (leb 1 (d .«clause_type») && leb (d .«clause_type») 6) _ e in
     let roled = and-right (leb 1 (d .«clause_type») && leb (d .«clause_type») 6) _ e in
-    let parts = and-right (leb (d .role) 1) _ roled in
+    let parts = and-right (leb (d .role) lastRole) _ roled in
     let first = partRight x n (ltb 0 u) (d .root1) (d .mask1) in
     let second = partRight x n (ltb 1 u) (d .root2) (d .mask2) in
     let rest = and-right first _ parts in
@@ -178,7 +178,7 @@ clause-kept x n m d e f =
     record {
       type-least = leb-true 1 (d .«clause_type») (and-left (leb 1 (d .«clause_type»)) _ range);
       type-most = leb-true (d .«clause_type») 6 (and-right (leb 1 (d .«clause_type»)) _ range);
-      role-most = leb-true (d .role) 1 (and-left (leb (d .role) 1) _ roled);
+      role-most = leb-true (d .role) lastRole (and-left (leb (d .role) lastRole) _ roled);
       part1 = part-kept x n m (ltb 0 u) (d .root1) (d .mask1) (and-left first _ parts) (and-left first′ _ f);
       part2 = part-kept x n m (ltb 1 u) (d .root2) (d .mask2) (and-left second _ rest) (and-left second′ _ rest′);
       part3 = part-kept x n m (ltb 2 u) (d .root3) (d .mask3) (and-right second _ rest) (and-right second′ _ rest′);

@@ -16,7 +16,7 @@ use Rattle.stored.specs.Bytes.{framedFrom, everyBelow, lowest}
 use Rattle.stored.specs.Node.{requirementSorts, isFormulaNode, nodeRight}
 use Rattle.stored.specs.Tree.{pick, formulaAt}
 use Rattle.stored.specs.Reach.{joint, reachAt, reachTable, entryOf}
-use Rattle.stored.specs.Clause.{partsUsed, partRight, clauseRight, clauseRightAt, partNamed, clauseNamed, clauseNamedAt, partCovered, clauseCovered, clauseCoveredAt}
+use Rattle.stored.specs.Clause.{lastRole, partsUsed, partRight, clauseRight, clauseRightAt, partNamed, clauseNamed, clauseNamedAt, partCovered, clauseCovered, clauseCoveredAt}
 use Rattle.stored.specs.Sheet.{headerOf, nodesOf, storedOf, framed, versioned, ofKindOne, counted, sized, nodesRight, operandsFound, clausesRight, clausesNamed, sheetRules, sheetRefusal, sheetAnswer}
 use Rattle.semantics.proofs.Tests.{and-left, and-right}
 use Rattle.stored.proofs.Rules.{every-at, every-same}
@@ -106,7 +106,7 @@ unfolding clauseRight clauseCovered clauseNamed
 clause-covered s m n x kept few d e =
     let u = partsUsed (d .«clause_type») in
     let roled = and-right (leb 1 (d .«clause_type») && leb (d .«clause_type») 6) _ e in
-    let parts = and-right (leb (d .role) 1) _ roled in
+    let parts = and-right (leb (d .role) lastRole) _ roled in
     let first = partRight x n (ltb 0 u) (d .root1) (d .mask1) in
     let second = partRight x n (ltb 1 u) (d .root2) (d .mask2) in
     let rest = and-right first _ parts in

@@ -5,6 +5,7 @@ pub mod Entries
 pub mod Tree
 pub mod Reach
 pub mod NameSets
+pub mod Roles
 pub mod Accepted
 pub mod Answer
 pub mod Written

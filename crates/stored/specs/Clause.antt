@@ -5,7 +5,7 @@ use mathlib.Core.List.{List, [], _∷_}
 use lib.Dec.{leb, ltb, eqb}
 use lib.ListN.{getD}
 use Rattle.semantics.specs.Proposition.{bit}
-use Rattle.semantics.specs.Clause.{Part, ClauseType, pref, init, anti, implies, follows, triggers, Role, assumption, commitment, Clause}
+use Rattle.semantics.specs.Clause.{Part, ClauseType, pref, init, anti, implies, follows, triggers, Role, assumption, commitment, advice, Clause}
 use Rattle.semantics.specs.Reach.{within}
 use Rattle.stored.specs.declared.Node.{Node}
 use Rattle.stored.specs.declared.StoredClause.{StoredClause}
@@ -29,12 +29,12 @@ storedAt l k =
       mask3 = getD l (clauseSize * k + 10) 0;
     }
 
--- the roles by their numbers: 0 is an assumption, 1 a commitment
+-- the roles by their numbers: 0 is an assumption, 1 a commitment, 2 advice
 abbrev pub roles : List Role
-roles = assumption ∷ commitment ∷ []
+roles = assumption ∷ commitment ∷ advice ∷ []
 
 abbrev pub lastRole : ℕ
-lastRole = 1
+lastRole = 2
 
 -- how many parts a type uses, by its number
 unfoldable pub partsUsed : ℕ → ℕ

@@ -14,12 +14,12 @@ ghost use Rattle.stored.specs.Node.{nodeAt};
 ghost use Rattle.stored.specs.Reach.{reachTable};
 ghost use Rattle.stored.specs.Clause.{storedAt, partsUsed, partRight, clauseRight, clauseRightAt, partCovered, clauseCovered, clauseCoveredAt};
 
-// The roles by their numbers, and how many there are.
+// The roles by their numbers.
 pub const ASSUMPTION: usize = 0;
 
 pub const COMMITMENT: usize = 1;
 
-pub const ROLES: usize = COMMITMENT + 1;
+pub const ADVICE: usize = 2;
 
 // How many parts each type uses; there is no type 0.
 const PARTS: [u8; 7] = [0, 1, 2, 1, 2, 3, 3];
@@ -81,7 +81,7 @@ fn clause_ok(nodes: &[u8], n: usize, d: StoredClause) -> bool
     let role = d.role;
     let used = parts_used(clause_type);
     let typed = (1 <= clause_type) & (clause_type <= 6);
-    let roled = role <= COMMITMENT;
+    let roled = role <= ADVICE;
     let first = part_ok(nodes, n, 0 < used, d.root1, d.mask1);
     let second = part_ok(nodes, n, 1 < used, d.root2, d.mask2);
     let third = part_ok(nodes, n, 2 < used, d.root3, d.mask3);

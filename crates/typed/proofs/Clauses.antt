@@ -12,7 +12,8 @@ use Rattle.semantics.specs.Formula.{Formula}
 use Rattle.semantics.specs.Placement.{Names}
 use Rattle.semantics.specs.Clause.{Part, Clause}
 use Rattle.semantics.proofs.Tests.{and-left, and-right, and-true-right}
-use Rattle.rows.proofs.Bits.{bit-suc, bit-nothing, bit-one, bit-or, same-bits}
+use Rattle.semantics.proofs.Bits.{bit-suc}
+use Rattle.rows.proofs.Bits.{bit-nothing, bit-one, bit-or, same-bits}
 use Rattle.stored.specs.declared.Node.{Node}
 use Rattle.stored.specs.Bytes.{inOrder}
 use Rattle.stored.specs.Node.{nodeAt}

@@ -12,7 +12,7 @@ use lib.Seq.{drop-drop, length-take-le, getD-take, take-at, drop-at, take-all}
 use Rattle.semantics.specs.Proposition.{Trace}
 use Rattle.semantics.specs.Clause.{Part, Role, assumption, commitment, Clause, breaksAt, breaks, fails}
 use Rattle.semantics.specs.Cycles.{someBelow}
-use Rattle.semantics.specs.Verdict.{sameRole, failsAs, hasRole, someFails, requirement, Verdict, Broken, Excused, Holds, excusedOr, brokenOr, verdict, firstPlace}
+use Rattle.semantics.specs.Verdict.{sameRole, failsAs, hasRole, someFails, requirement, Finding, Broken, Excused, Holds, excusedOr, brokenOr, findingOf, adviceOf, verdict, firstPlace}
 use Rattle.semantics.proofs.Tests.{and-right, and-intro}
 use Rattle.rows.proofs.Masks.{up-to-step}
 use Rattle.stored.specs.declared.Header.{Header}
@@ -303,18 +303,18 @@ module _ (u u′ : Part) (σ : Trace) where
   unused-fails r [] = refl
   unused-fails r (l ∷ more) = ap₂ (λ (x y : Bool). x || y) (alike-fails (unused-line u u′ l) r σ) (unused-fails r more)
 
-  unused-excused : (from : ℕ) (ls : List Line) (v : Verdict) → excusedOr from (meantLines u ls) σ v ≡ excusedOr from (meantLines u′ ls) σ v
+  unused-excused : (from : ℕ) (ls : List Line) (v : Finding) → excusedOr from (meantLines u ls) σ v ≡ excusedOr from (meantLines u′ ls) σ v
   unfolding excusedOr meantLines
   unused-excused from [] v = refl
   unused-excused from (l ∷ more) v =
-      ap₂ (λ (x : Bool) (y : Verdict). cond x (Excused from) y) (alike-fails (unused-line u u′ l) assumption σ) (unused-excused (suc from) more v)
+      ap₂ (λ (x : Bool) (y : Finding). cond x (Excused from) y) (alike-fails (unused-line u u′ l) assumption σ) (unused-excused (suc from) more v)
 
-  unused-broken : (from : ℕ) (ls : List Line) (v : Verdict) → brokenOr from (meantLines u ls) σ v ≡ brokenOr from (meantLines u′ ls) σ v
+  unused-broken : (from : ℕ) (ls : List Line) (v : Finding) → brokenOr from (meantLines u ls) σ v ≡ brokenOr from (meantLines u′ ls) σ v
   unfolding brokenOr meantLines
   unused-broken from [] v = refl
   unused-broken from (l ∷ more) v =
       let a = unused-line u u′ l in
-      ap₂ (λ (x : Bool) (y : Verdict). cond x (Broken (firstPlace from (length σ) (breaks (meantLine u l) σ))) y)
+      ap₂ (λ (x : Bool) (y : Finding). cond x (Broken (firstPlace from (length σ) (breaks (meantLine u l) σ))) y)
       (alike-fails a commitment σ) (unused-broken (suc from) more v)
       ∙ ap
       (λ (b : ℕ → ℕ → ℕ → Bool).
@@ -326,11 +326,29 @@ module _ (u u′ : Part) (σ : Trace) where
   unused-requirement t =
       ap₂ (λ (x y : Bool). x || not y) (unused-fails assumption (t .lines)) (unused-fails commitment (t .lines))
 
-  pub unused-verdict : (t : TypedSheet) → verdict (clausesMeant u t) σ ≡ verdict (clausesMeant u′ t) σ
-  unfolding verdict clausesMeant
-  unused-verdict t =
+  unused-finding : (t : TypedSheet) → findingOf (clausesMeant u t) σ ≡ findingOf (clausesMeant u′ t) σ
+  unfolding findingOf clausesMeant
+  unused-finding t =
       unused-excused 0 (t .lines) (brokenOr 0 (meantLines u (t .lines)) σ Holds)
       ∙ ap (excusedOr 0 (meantLines u′ (t .lines)) σ) (unused-broken 0 (t .lines) Holds)
+
+-- no word makes a typed clause advice
+no-advice : (u : Part) (σ : Trace) (ls : List Line) → adviceOf (meantLines u ls) σ ≡ 0
+unfolding adviceOf meantLines meantLine meantClause failsAs hasRole sameRole
+no-advice u σ [] = refl
+no-advice u σ (assumeL c ∷ more) = ap (λ (x : ℕ). x * 2 + 0) (no-advice u σ more)
+no-advice u σ (requireL c ∷ more) = ap (λ (x : ℕ). x * 2 + 0) (no-advice u σ more)
+
+-- a typed sheet's verdict is its finding alone
+pub typed-alone : (u : Part) (σ : Trace) (t : TypedSheet) → verdict (clausesMeant u t) σ ≡ record { finding = findingOf (clausesMeant u t) σ; advice = 0 }
+unfolding verdict clausesMeant
+typed-alone u σ t = ap (λ (x : ℕ). record { finding = findingOf (clausesMeant u t) σ; advice = x }) (no-advice u σ (t .lines))
+
+unused-verdict : (u u′ : Part) (σ : Trace) (t : TypedSheet) → verdict (clausesMeant u t) σ ≡ verdict (clausesMeant u′ t) σ
+unused-verdict u u′ σ t =
+    typed-alone u σ t
+    ∙ ap (λ (f : Finding). record { finding = f; advice = 0 }) (unused-finding u u′ σ t)
+    ∙ sym (typed-alone u′ σ t)
 
 -- ---- the stored sheet's requirement and verdicts are those of what the typed sheet says, whatever stands for unused parts
 module _ (t : TypedSheet) (h : tooMany t ≡ false) (small : smallSheet t ≡ true) (unused : Part) (σ : Trace) where

@@ -160,7 +160,7 @@ fn trace_for(sheet: &[u8], signals: usize, cycles: usize) -> Vec<u8> {
     let mut trace = vec![];
     for _ in 0..20 {
         trace = generate::trace(&mut random, signals, cycles).bytes();
-        if plain::Checker::new(sheet, &trace).check() == plain::Verdict::Holds {
+        if plain::Checker::new(sheet, &trace).check().finding == plain::Finding::Holds {
             break;
         }
     }
@@ -212,6 +212,36 @@ pub fn checks() -> Vec<Case> {
     cases.extend(anti("of windows", windows_in_a_row));
     cases.extend(anti("of stars", |_| stars_in_a_row()));
     cases
+}
+
+/// A sheet on a trace, with none, one, about half and all that can be of its clauses as advice.
+pub struct Advised {
+    pub what: &'static str,
+    pub trace: Vec<u8>,
+    /// How many of the last clauses are advice.
+    pub clauses: [usize; 4],
+    pub sheets: [Sheet; 4],
+}
+
+/// Eight clauses with one name on 64 cycles. All hold; or the first is a commitment that is broken at
+/// once, so that the others are searched only where they are advice.
+pub fn advice() -> [Advised; 2] {
+    let mut holding = waveforms(1);
+    let trace = trace_for(&holding.bytes(), 2, 64);
+    holding.clauses = (0..8).map(|c| holding.clauses[c % 2]).collect();
+    let mut broken = holding.clone();
+    let any = broken.anywhere();
+    broken.anti(Commitment, Part(any, 0));
+    broken.clauses.swap_remove(0);
+    let advised = |what, sheet: &Sheet, clauses: [usize; 4]| {
+        let last = |count: usize| (8 - count..8).map(|c| 1 << c).sum();
+        let sheets = clauses.map(|count| sheet.with_advice(last(count)));
+        Advised { what, trace: trace.clone(), clauses, sheets }
+    };
+    [
+        advised("8 clauses that hold", &holding, [0, 1, 4, 8]),
+        advised("7 clauses after one that is broken at once", &broken, [0, 1, 4, 7]),
+    ]
 }
 
 /// A sheet of 64 nodes, most of them chops, on 64 cycles. The less its four lines change, the more

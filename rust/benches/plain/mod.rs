@@ -9,10 +9,17 @@
 pub mod text;
 
 #[derive(Clone, Copy, Debug, PartialEq, Eq)]
-pub enum Verdict {
+pub enum Finding {
     Holds,
     Excused(usize),
     Broken(usize, usize, usize, usize),
+}
+
+#[derive(Clone, Copy, Debug, PartialEq, Eq)]
+pub struct Verdict {
+    pub finding: Finding,
+    /// Bit k is set if clause k is advice and fails.
+    pub advice: u8,
 }
 
 #[derive(Clone, Copy)]
@@ -393,19 +400,33 @@ impl Checker {
     pub fn check(&mut self) -> Verdict {
         self.placed = [0; 3];
         self.fill(FIRST);
+        Verdict { finding: self.finding(), advice: self.advice() }
+    }
+
+    fn finding(&mut self) -> Finding {
         for c in 0..self.clauses.len() {
             if self.clauses[c].role == 0 && self.first_broken(c).is_some() {
-                return Verdict::Excused(c);
+                return Finding::Excused(c);
             }
         }
         for c in 0..self.clauses.len() {
             if self.clauses[c].role == 1 {
                 if let Some(place) = self.first_broken(c) {
-                    return Verdict::Broken(c, place / 4096, place / 64 % 64, place % 64);
+                    return Finding::Broken(c, place / 4096, place / 64 % 64, place % 64);
                 }
             }
         }
-        Verdict::Holds
+        Finding::Holds
+    }
+
+    fn advice(&mut self) -> u8 {
+        let mut advice = 0;
+        for c in 0..self.clauses.len() {
+            if self.clauses[c].role == 2 && self.first_broken(c).is_some() {
+                advice |= 1 << c;
+            }
+        }
+        advice
     }
 }
 

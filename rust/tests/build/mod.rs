@@ -35,6 +35,7 @@ pub enum Symbol {
 pub enum Role {
     Assumption,
     Commitment,
+    Advice,
 }
 
 /// A root with the mask of its names.
@@ -212,6 +213,28 @@ impl Sheet {
     }
     pub fn triggers(&mut self, role: Role, d1: Part, d2: Part, d3: Part) {
         self.clause(6, role, &[d1, d2, d3]);
+    }
+
+    /// The same sheet with the clauses of a set, bit k for clause k, turned to advice.
+    pub fn with_advice(&self, set: u8) -> Sheet {
+        let mut sheet = self.clone();
+        for (k, clause) in sheet.clauses.iter_mut().enumerate() {
+            if set >> k & 1 == 1 {
+                clause[1] = Role::Advice as u8;
+            }
+        }
+        sheet
+    }
+
+    /// The same sheet with the clauses of a set cut out.
+    pub fn without(&self, set: u8) -> Sheet {
+        let left = (0..self.clauses.len()).filter(|k| set >> k & 1 == 0);
+        Sheet { clauses: left.map(|k| self.clauses[k]).collect(), ..self.clone() }
+    }
+
+    /// All clauses of the sheet, as a set.
+    pub fn all_clauses(&self) -> u8 {
+        (0..self.clauses.len()).map(|k| 1 << k).sum()
     }
 
     pub fn bytes(&self) -> Vec<u8> {

@@ -3,7 +3,8 @@
 use super::{Case, OnInterval};
 use crate::build::Role::*;
 use crate::build::{from_hex, Compare, Part, Sheet, Symbol, Trace};
-use crate::reference::clauses::Verdict::*;
+use crate::reference::clauses::Finding::*;
+use crate::reference::clauses::Verdict;
 
 /// A sheet of one formula, with a clause because a sheet has one.
 fn sheet_of(signals: u8, formula: impl Fn(&mut Sheet) -> crate::build::Node) -> (Vec<u8>, usize) {
@@ -93,7 +94,7 @@ pub fn program() -> Case {
              03 01 00 01 00 00 00 00 00 00 00",
         ),
         trace: from_hex("00 08 01 01 00 00 00 00 00 01"),
-        verdict: Broken(0, 2, 2, 2),
+        verdict: Verdict { finding: Broken(0, 2, 2, 2), advice: 0 },
     }
 }
 

@@ -1,16 +1,17 @@
 //! Sheets and traces with the verdict that they are to have: the examples and traps of document 01
-//! and the specifications of document 004; names that stay (request 4); and typed sheets with their
-//! answers. They are run on the reference and on the library.
+//! and the specifications of document 004; names that stay (request 4); advice (request 5); and typed
+//! sheets with their answers. They are run on the reference and on the library.
 
 #![allow(dead_code)]
 
+pub mod advice;
 pub mod examples;
 pub mod names;
 pub mod paper;
 pub mod texts;
 
 use crate::build::{Sheet, Trace};
-use crate::reference::clauses::Verdict;
+use crate::reference::clauses::{Finding, Verdict};
 
 pub struct Case {
     pub what: &'static str,
@@ -20,7 +21,9 @@ pub struct Case {
 }
 
 impl Case {
-    pub fn new(what: &'static str, sheet: &Sheet, trace: &Trace, verdict: Verdict) -> Self {
+    /// A case in which no advice fails.
+    pub fn new(what: &'static str, sheet: &Sheet, trace: &Trace, finding: Finding) -> Self {
+        let verdict = Verdict { finding, advice: 0 };
         Case { what, sheet: sheet.bytes(), trace: trace.bytes(), verdict }
     }
 }

@@ -3,12 +3,12 @@
 use super::Case;
 use crate::build::Role::Commitment;
 use crate::build::{Compare, Node, Part, Sheet, Trace};
-use crate::reference::clauses::Verdict::{self, *};
+use crate::reference::clauses::Finding::{self, *};
 
-/// A verdict on three cycles, and the one that the rule before the request gave.
+/// A case on three cycles, and the finding that the rule before the request gave.
 pub struct Stays {
     pub case: Case,
-    pub before: Verdict,
+    pub before: Finding,
 }
 
 /// A sheet of one clause and one name, over the nodes that it is made of.
@@ -56,13 +56,13 @@ impl Parts {
 fn stays(
     what: &'static str,
     clause: impl Fn(&mut Sheet, &Parts),
-    verdict: Verdict,
-    before: Verdict,
+    finding: Finding,
+    before: Finding,
 ) -> Stays {
     let parts = Parts::new();
     let mut sheet = parts.sheet.clone();
     clause(&mut sheet, &parts);
-    Stays { case: Case::new(what, &sheet, &Trace::drawn(&["000"]), verdict), before }
+    Stays { case: Case::new(what, &sheet, &Trace::drawn(&["000"]), finding), before }
 }
 
 pub fn cases() -> Vec<Stays> {

@@ -4,7 +4,7 @@
 use super::Case;
 use crate::build::Role::*;
 use crate::build::{Compare, Node, Part, Role, Sheet, Symbol::*, Trace};
-use crate::reference::clauses::Verdict::*;
+use crate::reference::clauses::Finding::*;
 
 const NO_LIMIT: u16 = u16::MAX;
 

@@ -4,7 +4,7 @@
 #![allow(dead_code)]
 
 use crate::build::{hex, Trace};
-use crate::reference::clauses::{self, Verdict};
+use crate::reference::clauses::{self, Finding, Verdict};
 use crate::reference::{self, formula, stored, Number};
 use fasunqir::Place;
 use std::io::Write;
@@ -45,12 +45,13 @@ fn number<T>(answer: Result<T, fasunqir::Refusal>) -> Result<T, Number> {
     answer.map_err(|refusal| refusal.number())
 }
 
-fn as_reference(verdict: fasunqir::Verdict) -> Verdict {
-    match verdict {
-        fasunqir::Verdict::Holds => Verdict::Holds,
-        fasunqir::Verdict::Excused { clause } => Verdict::Excused(clause),
-        fasunqir::Verdict::Broken(Place { clause, i, j, k }) => Verdict::Broken(clause, i, j, k),
-    }
+fn as_reference(fasunqir::Verdict { finding, advice }: fasunqir::Verdict) -> Verdict {
+    let finding = match finding {
+        fasunqir::Finding::Holds => Finding::Holds,
+        fasunqir::Finding::Excused { clause } => Finding::Excused(clause),
+        fasunqir::Finding::Broken(Place { clause, i, j, k }) => Finding::Broken(clause, i, j, k),
+    };
+    Verdict { finding, advice }
 }
 
 /// Words after a check or a table: as before if it refused, all zero if it answered.
@@ -145,7 +146,7 @@ impl Translated {
         assert_eq!(truth, clauses::requirement(&self.source, cycles), "{}", replay());
         if cycles.len() <= 64 {
             let verdict = check(&self.sheet, &trace, 4096);
-            let broken = matches!(verdict, Ok(Verdict::Broken(..)));
+            let broken = matches!(verdict, Ok(Verdict { finding: Finding::Broken(..), .. }));
             assert_eq!(truth, !broken, "{verdict:?}\n{}", replay());
         }
         truth
@@ -215,15 +216,27 @@ pub struct Tally {
     /// Evaluations of a formula that gave true, and false.
     pub truths: usize,
     pub falsehoods: usize,
+    /// Verdicts with advice that fails, under Holds, Excused and Broken.
+    pub advised: [usize; 3],
+    /// Verdicts with the bit of clause k set.
+    pub bits: [usize; 8],
 }
 
 impl Tally {
     pub fn count(&mut self, answer: &Result<Verdict, Number>) {
-        match answer {
-            Ok(Verdict::Holds) => self.holds += 1,
-            Ok(Verdict::Excused(_)) => self.excused += 1,
-            Ok(Verdict::Broken(..)) => self.broken += 1,
-            Err(_) => self.refused += 1,
+        let Ok(Verdict { finding, advice }) = answer else {
+            self.refused += 1;
+            return;
+        };
+        let (count, under) = match finding {
+            Finding::Holds => (&mut self.holds, 0),
+            Finding::Excused(_) => (&mut self.excused, 1),
+            Finding::Broken(..) => (&mut self.broken, 2),
+        };
+        *count += 1;
+        self.advised[under] += (*advice != 0) as usize;
+        for (k, count) in self.bits.iter_mut().enumerate() {
+            *count += (advice >> k & 1) as usize;
         }
     }
 
@@ -238,7 +251,8 @@ impl Tally {
     /// Prints the counts and demands of each kind so many at least, so that no generator falls to
     /// one verdict unnoticed: held, excused, broken and refused checks, true and false formulas.
     pub fn demand(&self, what: &str, least: [usize; 6]) {
-        let Tally { holds, excused, broken, refused, tables, formulas, truths, falsehoods } = self;
+        let Tally { holds, excused, broken, refused, tables, formulas, truths, falsehoods, .. } =
+            self;
         report(format!(
             "{what}: {} checks ({holds} hold, {excused} excused, {broken} broken, {refused} \
              refused), {tables} tables, {formulas} formulas evaluated {} times ({truths} true, \
@@ -249,5 +263,24 @@ impl Tally {
         let counts = [*holds, *excused, *broken, *refused, *truths, *falsehoods];
         let enough = counts.iter().zip(&least).all(|(count, least)| count >= least);
         assert!(enough, "{what}: {counts:?} came, and {least:?} at least are demanded");
+    }
+
+    /// Prints how many of the verdicts have advice that fails and demands so many at least under
+    /// each finding: held, excused and broken.
+    pub fn demand_advice(&self, what: &str, least: [usize; 3]) {
+        let Tally { holds, excused, broken, advised: [held, let_off, broke], .. } = self;
+        report(format!(
+            "{what}: advice fails in {held} of {holds} that hold, {let_off} of {excused} excused, \
+             {broke} of {broken} broken"
+        ));
+        let enough = self.advised.iter().zip(&least).all(|(count, least)| count >= least);
+        assert!(enough, "{what}: {:?} came, and {least:?} are demanded", self.advised);
+    }
+
+    /// Prints how often each clause's bit is set and demands so many at least of each.
+    pub fn demand_bits(&self, what: &str, least: usize) {
+        report(format!("{what}: bits of clauses 0 to 7 are set {:?} times", self.bits));
+        let enough = self.bits.iter().all(|&count| count >= least);
+        assert!(enough, "{what}: {:?} came, and {least} of each are demanded", self.bits);
     }
 }

@@ -308,6 +308,12 @@ fn about_marks(random: &mut Random, sheet: &mut Sheet, shape: Shape) -> Node {
     }
 }
 
+/// A drawn sheet with some of its clauses, at least one, turned to advice. The draws themselves give
+/// assumptions and commitments alone.
+pub fn advised(random: &mut Random, sheet: &Sheet) -> Sheet {
+    sheet.with_advice(random.between(1, sheet.all_clauses() as usize) as u8)
+}
+
 /// A trace whose signals mostly keep their value from cycle to cycle.
 pub fn trace(random: &mut Random, signals: usize, cycles: usize) -> Trace {
     let mut word = random.next() as u16;

@@ -1,5 +1,6 @@
 //! Placements, the six clause types, the requirement and the verdict. A name is placed inside the
-//! interval of the first part that lists it and keeps that cycle in later parts (request 4).
+//! interval of the first part that lists it and keeps that cycle in later parts (request 4). A verdict
+//! is a finding of the requirement with the advice that fails beside it (request 5).
 
 use super::meaning::{Marks, Meaning};
 use super::stored::{Clause, Sheet};
@@ -175,7 +176,7 @@ fn doubled((i, j): (usize, usize)) -> Cycles {
     (i, j, j)
 }
 
-/// Whether some assumption fails or every commitment holds.
+/// Whether some assumption fails or every commitment holds; advice is passed over.
 pub fn requirement(sheet: &Sheet, trace: &[u16]) -> bool {
     let clauses = Clauses::new(sheet, trace, Rule::Stays);
     let holds = |clause: &Clause| clauses.first_broken(clause).is_none();
@@ -185,29 +186,48 @@ pub fn requirement(sheet: &Sheet, trace: &[u16]) -> bool {
 }
 
 #[derive(Clone, Copy, Debug, PartialEq, Eq)]
-pub enum Verdict {
+pub enum Finding {
     Holds,
     Excused(usize),
     Broken(usize, usize, usize, usize),
 }
 
-pub fn verdict(sheet: &Sheet, trace: &[u16]) -> Verdict {
-    verdict_by(Rule::Stays, sheet, trace)
+#[derive(Clone, Copy, Debug, PartialEq, Eq)]
+pub struct Verdict {
+    pub finding: Finding,
+    pub advice: u8,
 }
 
-pub fn verdict_by(rule: Rule, sheet: &Sheet, trace: &[u16]) -> Verdict {
+pub fn verdict(sheet: &Sheet, trace: &[u16]) -> Verdict {
+    let finding = finding_by(Rule::Stays, sheet, trace);
+    Verdict { finding, advice: advice(sheet, trace) }
+}
+
+pub fn finding_by(rule: Rule, sheet: &Sheet, trace: &[u16]) -> Finding {
     let clauses = Clauses::new(sheet, trace, rule);
     for (number, clause) in sheet.clauses.iter().enumerate() {
         if clause.role == 0 && clauses.first_broken(clause).is_some() {
-            return Verdict::Excused(number);
+            return Finding::Excused(number);
         }
     }
     for (number, clause) in sheet.clauses.iter().enumerate() {
         if clause.role == 1 {
             if let Some((i, j, k)) = clauses.first_broken(clause) {
-                return Verdict::Broken(number, i, j, k);
+                return Finding::Broken(number, i, j, k);
             }
         }
     }
-    Verdict::Holds
+    Finding::Holds
+}
+
+/// The byte whose bit k is set exactly if clause k is advice and fails.
+pub fn advice(sheet: &Sheet, trace: &[u16]) -> u8 {
+    let clauses = Clauses::new(sheet, trace, Rule::Stays);
+    let mut byte = 0;
+    for (number, clause) in sheet.clauses.iter().enumerate() {
+        if clause.role == 2 && clauses.first_broken(clause).is_some() {
+            byte += 1 << number;
+        }
+    }
+    byte
 }

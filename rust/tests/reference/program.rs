@@ -1,6 +1,6 @@
 //! What the programs write for their input.
 
-use super::clauses::Verdict;
+use super::clauses::{Finding, Verdict};
 use super::stored::field;
 use super::Number;
 
@@ -20,13 +20,16 @@ pub fn verdict(input: &[u8]) -> Result<Verdict, Number> {
     super::check(sheet, trace, 4096)
 }
 
-/// The line of `sheetcheck`.
+/// The line of `sheetcheck`; a verdict's ends with a space and the advice byte in decimal.
 pub fn line(input: &[u8]) -> String {
-    match verdict(input) {
-        Ok(Verdict::Holds) => "HOLDS\n".to_string(),
-        Ok(Verdict::Excused(clause)) => format!("EXCUSED {clause}\n"),
-        Ok(Verdict::Broken(clause, i, j, k)) => format!("BROKEN {clause} {i} {j} {k}\n"),
-        Err(number) => refused(number),
+    let Verdict { finding, advice } = match verdict(input) {
+        Ok(verdict) => verdict,
+        Err(number) => return refused(number),
+    };
+    match finding {
+        Finding::Holds => format!("HOLDS {advice}\n"),
+        Finding::Excused(clause) => format!("EXCUSED {clause} {advice}\n"),
+        Finding::Broken(clause, i, j, k) => format!("BROKEN {clause} {i} {j} {k} {advice}\n"),
     }
 }
 

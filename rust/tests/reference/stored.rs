@@ -197,7 +197,7 @@ pub fn some_operand_is_wrong(sheet: &Sheet) -> bool {
 
 fn some_clause_is_wrong(sheet: &Sheet) -> bool {
     sheet.clauses.iter().any(|clause| {
-        if !(1..=6).contains(&clause.clause_type) || clause.role > 1 {
+        if !(1..=6).contains(&clause.clause_type) || clause.role > 2 {
             return true;
         }
         (0..3).any(|part| {

@@ -3,14 +3,12 @@ use Prim.Native.Nat.{_-_, _≤_}
 use mathlib.Core.Path.{_≡_}
 use native.Mathlib.Omega.{arith}
 use Rattle.stored.specs.Node.{nodeAt}
-use Rattle.stored.specs.Sheet.{headerOf}
-use Rattle.stored.proofs.Accepted.{ClauseKept}
 use Rattle.plans.specs.Emission.{count, Ready}
 use Rattle.plans.proofs.Calls.{free}
 use Rattle.plans.proofs.Steps.{ready-kept}
 use Rattle.emission.proofs.Copied.{costs-most}
 use Rattle.clauses.specs.Clauses.{clausesAt}
-use Rattle.clauses.proofs.Joining.{clauses-kept, clause-known, Joined, joined-start, joined-next, joined-done}
+use Rattle.clauses.proofs.Joining.{clauses-kept, Joined, joined-start, joined-next, joined-done}
 use Rattle.clauses.proofs.requirement.put_requirement.Statement.{statement}
 use Rattle.clauses.proofs.requirement.put_requirement.Tie as tie
 
@@ -28,13 +26,6 @@ copied c =
     let s = c .copy-nodes .ensures .0 in
     (ready-kept s (p .0), omega (arith, s .few, costs-most (nodeAt (start .args .nodes .now)) (start .args .n), p .1, p .2 .few))
 
--- a clause is read
-read : (c : tie.After-stored-at Inv-loop μ-loop) → let start = c .before .before .before .before .before .before .before .before .before .before in
-    ClauseKept (nodeAt (start .args .nodes .now)) (start .args .n) (headerOf (start .args .out .now) .names) (c .stored-at .result)
-read c =
-    let start = c .before .before .before .before .before .before .before .before .before .before in
-    clause-known (start .pre .3) _ (c .before .loop-test .taken) (c .stored-at .ensures)
-
 copy-nodes-requires : tie.Need-copy-nodes-requires Inv-loop μ-loop
 copy-nodes-requires c κs = let p = c .before .before .before .before .pre in (p .0, omega (arith, p .1), p .2)
 
@@ -44,24 +35,11 @@ loop-holds c = (omega arith, joined-start _ (copied (c .before .before) .0))
 stored-at-requires : tie.Need-stored-at-requires Inv-loop μ-loop
 stored-at-requires c κs = omega (arith, c .before .before .before .before .before .before .before .before .before .pre .3 .inside, c .loop-test .taken)
 
-slice-aggregate-put-clause : tie.Need-slice-aggregate-put-clause Inv-loop μ-loop
-slice-aggregate-put-clause c = omega arith
+slice-aggregate-join-clause : tie.Need-slice-aggregate-join-clause Inv-loop μ-loop
+slice-aggregate-join-clause c = omega arith
 
-mul-side : tie.Need-mul-side Inv-loop μ-loop
-mul-side c = omega (arith, read (c .before .before .before .before .before) .role-most)
-
-array-read-side : tie.Need-array-read-side Inv-loop μ-loop
-array-read-side c =
-    let d = c .before .before .before .before .before in
-    omega (arith, read d .role-most, d .before .before .loop .inv .1 .two)
-
-mul-sides : tie.Need-mul-sides Inv-loop μ-loop
-mul-sides c = omega (arith, read (c .before .before .before .before .before .before .before .before .before) .role-most)
-
-array-write-sides : tie.Need-array-write-sides Inv-loop μ-loop
-array-write-sides c =
-    let d = c .before .before .before .before .before .before .before .before .before in
-    omega (arith, read d .role-most, d .before .before .loop .inv .1 .two)
+join-clause-requires : tie.Need-join-clause-requires Inv-loop μ-loop
+join-clause-requires c κs = c .before .before .before .before .loop .inv .1 .two
 
 add-k : tie.Need-add-k Inv-loop μ-loop
 add-k c = omega arith
@@ -71,18 +49,16 @@ loop-less c = omega arith
 
 loop-again : tie.Need-loop-again Inv-loop μ-loop
 loop-again c =
-    let put = c .before .before in
-    let clause = put .before .before .before .before in
+    let clause = c .before .before in
     let d = clause .before .before .before in
     let turn = d .before in
     let at = turn .before in
     let copy = at .before .before .before in
     let start = copy .before .before .before .before .before in
-    let sheet = clauses-kept (copy .copy-nodes .ensures .0) (start .pre .3) in
-    let less = turn .loop-test .taken in (
+    let sheet = clauses-kept (copy .copy-nodes .ensures .0) (start .pre .3) in (
       omega arith,
-      joined-next _ _ _ _ _ (copied copy .0) (copied copy .1) sheet (copy .copy-nodes .ensures .1) less (d .stored-at .ensures)
-          (at .loop .inv .1) (clause .put-clause .ensures) (put .put-or .ensures),
+      joined-next _ _ _ _ _ (copied copy .0) (copied copy .1) sheet (copy .copy-nodes .ensures .1) (turn .loop-test .taken) (d .stored-at .ensures)
+          (at .loop .inv .1) (clause .join-clause .ensures),
     )
 
 array-read-assumed : tie.Need-array-read-assumed Inv-loop μ-loop
@@ -100,7 +76,7 @@ returns c =
     let start = copy .before .before .before .before .before in
     let full : at .loop .k ≡ start .args .c = omega (arith, end .loop-test .left, at .loop .inv .0) in
     joined-done _ _ _ _ _ full (start .pre .3 .few) (copy .copy-nodes .ensures .0) (copied copy .1) (at .loop .inv .1)
-    (not .put-not .ensures) (c .before .before .put-or2 .ensures)
+    (not .put-not .ensures) (c .before .before .put-or .ensures)
 
 same-length : tie.Need-same-length Inv-loop μ-loop
 same-length c = returns c .0 .step .size
@@ -114,13 +90,8 @@ put-requirement-spec =
     copy-nodes-requires
     loop-holds
     stored-at-requires
-    slice-aggregate-put-clause
-    free
-    mul-side
-    array-read-side
-    free
-    mul-sides
-    array-write-sides
+    slice-aggregate-join-clause
+    join-clause-requires
     add-k
     loop-less
     loop-again

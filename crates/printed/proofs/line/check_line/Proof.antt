@@ -3,7 +3,7 @@ use Prim.Native.Nat.{ℕ}
 use mathlib.Core.List.{List}
 use mathlib.Core.Path.{_∙_, ap, ap₂}
 use Rattle.checker.specs.declared.check.Answer.{Answer}
-use Rattle.printed.specs.Line.{lineText, lineOf, lineFor}
+use Rattle.printed.specs.Line.{lineText, mostLine, lineOf, lineFor}
 use Rattle.lines.proofs.Texts.{put-padded}
 use borrow.Author.Needs.{needs}
 use Rattle.printed.proofs.line.check_line.Statement.{statement}
@@ -25,7 +25,7 @@ returns : tie.Need-returns
 unfolding lineOf lineFor
 returns c =
     let e = c .before .put-answer .ensures in
-    let w = put-padded 24 (c .before .before .before .blank .ensures) (e .0) (e .1) in (
+    let w = put-padded mostLine (c .before .before .before .blank .ensures) (e .0) (e .1) in (
       ap₂ (λ (l : List ℕ) (n : ℕ). record { bytes = l; length = n }) (w .0) (w .1)
           ∙ ap (λ (x : Answer). lineOf (lineText x)) (c .before .before .before .before .answer-for .ensures .0),
       w .2,

@@ -1,12 +1,12 @@
--- `checker::check::role_place` meets its contract.
+-- `checker::failing::role_place` meets its contract.
 use borrow.Author.Needs.{needs}
 use native.Mathlib.Omega.{arith}
 use Rattle.stored.specs.Node.{nodeAt}
 use Rattle.traces.specs.Columns.{traceOf}
 use Rattle.checker.proofs.Clauses.{short-trace}
 use Rattle.checker.proofs.Verdicts.{other-role, no-place, some-place}
-use Rattle.checker.proofs.check.role_place.Statement.{statement}
-use Rattle.checker.proofs.check.role_place.Tie as tie
+use Rattle.checker.proofs.failing.role_place.Statement.{statement}
+use Rattle.checker.proofs.failing.role_place.Tie as tie
 
 returns : tie.Need-returns
 returns c =

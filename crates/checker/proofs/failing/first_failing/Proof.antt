@@ -1,4 +1,4 @@
--- `checker::check::first_failing` meets its contract.
+-- `checker::failing::first_failing` meets its contract.
 use borrow.Author.Needs.{needs}
 use mathlib.Core.Path.{_≡_, refl, _∙_}
 use native.Mathlib.Omega.{arith}
@@ -12,8 +12,8 @@ use Rattle.places.specs.Laid.{Laid}
 use Rattle.places.proofs.Walks.{laid-own, relaid}
 use Rattle.checker.specs.Clauses.{clauseAt}
 use Rattle.checker.proofs.Verdicts.{one-more, place-at}
-use Rattle.checker.proofs.check.first_failing.Statement.{statement}
-use Rattle.checker.proofs.check.first_failing.Tie as tie
+use Rattle.checker.proofs.failing.first_failing.Statement.{statement}
+use Rattle.checker.proofs.failing.first_failing.Tie as tie
 
 abbrev Inv-loop : tie.InvT-loop
 Inv-loop role clauses sizes nodes reach columns₀ words₀ rows₀ many k₀ columns words rows k =

@@ -1,4 +1,4 @@
--- `checker::check::verdict_over` meets its contract.
+-- `checker::check::finding_over` meets its contract.
 use borrow.Author.Needs.{needs}
 use mathlib.Core.Path.{ap, subst, _∙_}
 use native.Mathlib.Omega.{arith}
@@ -7,13 +7,13 @@ use Rattle.semantics.specs.Clause.{Clause}
 use Rattle.stored.specs.Clause.{roleOf}
 use Rattle.traces.specs.Columns.{traceOf}
 use Rattle.places.proofs.Walks.{laid-own}
-use Rattle.checker.specs.declared.check.Answer.the-variants.{Broken}
-use Rattle.checker.specs.declared.check.Failing.{Failing}
+use Rattle.checker.specs.declared.check.Finding.the-variants.{Broken}
+use Rattle.checker.specs.declared.failing.Failing.{Failing}
 use Rattle.checker.specs.Clauses.{FailingIs, clauseAt}
 use Rattle.checker.proofs.Clauses.{short-trace}
-use Rattle.checker.proofs.Verdicts.{verdict-excused, verdict-broken, verdict-holds, failing-again}
-use Rattle.checker.proofs.check.verdict_over.Statement.{statement}
-use Rattle.checker.proofs.check.verdict_over.Tie as tie
+use Rattle.checker.proofs.Verdicts.{finding-excused, finding-broken, finding-holds, failing-again}
+use Rattle.checker.proofs.check.finding_over.Statement.{statement}
+use Rattle.checker.proofs.check.finding_over.Tie as tie
 
 first-failing-requires : tie.Need-first-failing-requires
 first-failing-requires c κs =
@@ -56,7 +56,7 @@ returns c =
     let a = c .before .before .before .before .before .before .before .before .before .before .before .before .before .before .before .before .before .before .before .args in
     let f : ℕ → Clause = clauseAt (a .nodes .now) (a .clauses .now) in
     let σ = traceOf (a .sizes .cycles) (a .columns .now) in
-    verdict-excused f (a .sizes .clauses) σ _ _ (subst (λ (x : Failing). FailingIs (roleOf 0) f (a .sizes .clauses) σ x) (c .before .assumption .given .1) (c .before .before .before .before .before .before .before .before .before .first-failing .ensures .1 .1))
+    finding-excused f (a .sizes .clauses) σ _ _ (subst (λ (x : Failing). FailingIs (roleOf 0) f (a .sizes .clauses) σ x) (c .before .assumption .given .1) (c .before .before .before .before .before .before .before .before .before .first-failing .ensures .1 .1))
 
 same-length-4 : tie.Need-same-length-4
 same-length-4 c = c .before .before .before .before .before .before .before .before .before .before .first-failing2 .kept .1 .1 .1 .1 .1 .0 ∙ c .before .before .before .before .before .before .before .before .before .before .before .before .before .before .before .before .before .before .before .before .before .before .first-failing .kept .1 .1 .1 .1 .1 .0
@@ -76,7 +76,7 @@ returns-2 c =
     let r = c .before .before .before .before .before .before .before .before .before .before .before .before .before .before .before .before .before .before .before .before .before .before .first-failing .ensures in
     let w = c .before .before .before .before .before .before .before .before .before .before .first-failing2 .ensures in
     ap Broken (c .place-of .ensures)
-    ∙ verdict-broken f (a .sizes .clauses) σ _ _ (short-trace (c .before .before .before .before .before .before .before .before .before .before .before .before .before .before .before .before .before .before .before .before .before .before .before .before .before .before .before .before .before .before .before .before .pre .0)) (subst (λ (x : Failing). FailingIs (roleOf 0) f (a .sizes .clauses) σ x) (c .before .before .before .before .before .before .before .before .before .before .before .before .before .before .enum-told .given .1) (r .1 .1))
+    ∙ finding-broken f (a .sizes .clauses) σ _ _ (short-trace (c .before .before .before .before .before .before .before .before .before .before .before .before .before .before .before .before .before .before .before .before .before .before .before .before .before .before .before .before .before .before .before .before .pre .0)) (subst (λ (x : Failing). FailingIs (roleOf 0) f (a .sizes .clauses) σ x) (c .before .before .before .before .before .before .before .before .before .before .before .before .before .before .enum-told .given .1) (r .1 .1))
     (failing-again (roleOf 1) f (a .sizes .clauses) (r .0) (c .before .before .commitment .given .1) (w .1 .1))
 
 same-length-7 : tie.Need-same-length-7
@@ -96,11 +96,11 @@ returns-3 c =
     let σ = traceOf (a .sizes .cycles) (a .columns .now) in
     let r = c .before .before .before .before .before .before .before .before .before .before .before .before .before .before .before .before .before .before .before .before .first-failing .ensures in
     let w = c .before .before .before .before .before .before .before .before .first-failing2 .ensures in
-    verdict-holds f (a .sizes .clauses) σ (subst (λ (x : Failing). FailingIs (roleOf 0) f (a .sizes .clauses) σ x) (c .before .before .before .before .before .before .before .before .before .before .before .before .enum-told .given .1) (r .1 .1))
+    finding-holds f (a .sizes .clauses) σ (subst (λ (x : Failing). FailingIs (roleOf 0) f (a .sizes .clauses) σ x) (c .before .before .before .before .before .before .before .before .before .before .before .before .enum-told .given .1) (r .1 .1))
     (failing-again (roleOf 1) f (a .sizes .clauses) (r .0) (c .enum-told2 .given .1) (w .1 .1))
 
-pub verdict-over-spec : {M : Type 1} → statement M
-verdict-over-spec =
+pub finding-over-spec : {M : Type 1} → statement M
+finding-over-spec =
     tie.close
     (tie.spec
     first-failing-requires

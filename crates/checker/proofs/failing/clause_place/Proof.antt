@@ -1,10 +1,10 @@
--- `checker::check::clause_place` meets its contract.
+-- `checker::failing::clause_place` meets its contract.
 use borrow.Author.Needs.{needs}
 use mathlib.Core.Path.{refl}
 use native.Mathlib.Omega.{arith}
 use Rattle.checker.proofs.Clauses.{clause-walkable, clause-least}
-use Rattle.checker.proofs.check.clause_place.Statement.{statement}
-use Rattle.checker.proofs.check.clause_place.Tie as tie
+use Rattle.checker.proofs.failing.clause_place.Statement.{statement}
+use Rattle.checker.proofs.failing.clause_place.Tie as tie
 
 task-of-requires : tie.Need-task-of-requires
 task-of-requires c κs = omega (arith, c .before .before .before .before .before .pre .1 .0 .type-least, c .before .before .before .before .before .pre .1 .0 .type-most)
