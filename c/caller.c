@@ -1,5 +1,5 @@
-/* Calls the library from C: the scope paper's example, typed and stored, a sheet with advice, and a refusal of each operation. Prints a line
-   for each check and returns 1 where one fails. */
+/* Calls the library from C: the scope paper's example, typed, stored and cycle by cycle on a board, a sheet with advice, and a refusal of each
+   operation. Prints a line for each check and returns 1 where one fails. */
 #include "fasunqir.h"
 #include <stdio.h>
 #include <string.h>
@@ -185,11 +185,71 @@ static void texts(void) {
     expect(bytes_kept(0), "read_text: refused, the bytes are as they were");
 }
 
+static int same_board(const struct fasunqir_board *one, const struct fasunqir_board *other) {
+    return memcmp(one->sheet, other->sheet, sizeof one->sheet) == 0 &&
+           memcmp(one->cycles, other->cycles, sizeof one->cycles) == 0 && one->taken == other->taken &&
+           one->verdict == other->verdict;
+}
+
+/* Feeds a board with the words as they are lent, so many of them. */
+static uint64_t feed(struct fasunqir_board *board, uint16_t cycle, size_t words_len) {
+    lend();
+    return fasunqir_board_feed(board, cycle, words, words_len);
+}
+
+/* The feed is refused by this number, and leaves board and words as they were. */
+static int refuses(struct fasunqir_board *board, uint16_t cycle, size_t words_len, uint64_t number) {
+    struct fasunqir_board before = *board;
+    uint64_t refused = feed(board, cycle, words_len);
+    return refused == answer(FASUNQIR_REFUSED, number) && same_board(board, &before) && all_words(7);
+}
+
+static void boards(void) {
+    const uint64_t holds = answer(FASUNQIR_HOLDS, 0);
+    const uint64_t broken = answer(FASUNQIR_BROKEN, 0 * 262144 + 2 * 4096 + 2 * 64 + 2);
+    struct fasunqir_board board, before;
+    memset(&board, 7, sizeof board);
+    before = board;
+    expect(fasunqir_board_open(&board, sheet, 8) == answer(FASUNQIR_REFUSED, 1), "open: a sheet of 8 bytes is refused by 1");
+    expect(same_board(&board, &before), "open: refused, the board is as it was");
+
+    expect(fasunqir_board_open(&board, sheet, sizeof sheet) == answer(FASUNQIR_WRITTEN, 0), "open: a board is written");
+    memset(&before, 0, sizeof before);
+    memcpy(before.sheet, sheet, sizeof sheet);
+    expect(same_board(&board, &before), "open: the sheet is on it, no cycle and no verdict");
+
+    expect(feed(&board, 0, FASUNQIR_WORDS + 1) == holds && all_words(0), "feed: HOLDS, and the words are zero");
+    expect(feed(&board, 0, FASUNQIR_WORDS + 1) == holds, "feed: HOLDS again");
+    expect(refuses(&board, 2, FASUNQIR_WORDS + 1, 21), "feed: a bit for signal 1 of 1 is refused by 21");
+    expect(refuses(&board, 2, FASUNQIR_WORDS - 1, 15), "feed: 4,095 words are refused by 15, before 21");
+    expect(board.taken == 2 && board.verdict == holds, "feed: two cycles are taken, and the board says HOLDS");
+    expect(feed(&board, 1, FASUNQIR_WORDS + 1) == broken, "feed: BROKEN 0 2 2 2, as the check of the trace");
+    expect(board.taken == 3 && board.cycles[2] == 1 && board.verdict == broken, "feed: the board says so");
+
+    /* A board made by hand: what follows its sheet, and its verdict, may be anything. */
+    memset(&board, 7, sizeof board);
+    memcpy(board.sheet, sheet, sizeof sheet);
+    board.cycles[0] = board.cycles[1] = 0;
+    board.taken = 2;
+    expect(refuses(&board, 2, FASUNQIR_WORDS + 1, 21), "by hand: a refusal leaves what its verdict was");
+    expect(feed(&board, 1, FASUNQIR_WORDS + 1) == broken && board.verdict == broken, "by hand: BROKEN 0 2 2 2");
+    board.cycles[1] = 2;
+    expect(refuses(&board, 0, FASUNQIR_WORDS + 1, 13), "by hand: a bit for signal 1 in a taken cycle is refused by 13");
+    board.taken = (size_t)-1;
+    expect(refuses(&board, 0, FASUNQIR_WORDS + 1, 13), "by hand: more than 64 cycles are refused by 13");
+    memset(board.cycles, 0, sizeof board.cycles);
+    board.taken = FASUNQIR_CYCLES;
+    expect(refuses(&board, 0, FASUNQIR_WORDS + 1, 22), "by hand: a 65th cycle is refused by 22");
+    board.sheet[2] = 2;
+    expect(refuses(&board, 0, FASUNQIR_WORDS + 1, 2), "by hand: version 2 is refused by 2");
+}
+
 int main(void) {
     checks();
     advice();
     tables();
     translations();
     texts();
+    boards();
     return failed;
 }

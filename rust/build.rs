@@ -7,9 +7,16 @@ use std::env;
 use std::path::{Path, PathBuf};
 use std::process::Command;
 
-/// What both versions export; the other's names get `other_` before them.
-const EXPORTED: [&str; 4] =
-    ["fasunqir_check", "fasunqir_table", "fasunqir_translate", "fasunqir_read_text"];
+/// What the versions export; the other's names get `other_` before them. An older version may lack
+/// the last, which objcopy then passes over.
+const EXPORTED: [&str; 6] = [
+    "fasunqir_check",
+    "fasunqir_table",
+    "fasunqir_translate",
+    "fasunqir_read_text",
+    "fasunqir_open",
+    "fasunqir_feed",
+];
 
 /// Copies the archive with every function at the start of a line of the processor's cache, and its
 /// exported functions under other names. What a check costs then doesn't depend on what else is

@@ -1,6 +1,6 @@
-//! Check, table, translate and the reader of typed sheets measured in one run, beside the brute force
-//! and a plain bit-parallel checker and reader without proofs. Prints Markdown tables and writes
-//! them, with a plot, to `target/bench` or to the directory in FASUNQIR_BENCH_DIR.
+//! Check, table, a board, translate and the reader of typed sheets measured in one run, beside the
+//! brute force and a plain bit-parallel checker and reader without proofs. Prints Markdown tables and
+//! writes them, with a plot, to `target/bench` or to the directory in FASUNQIR_BENCH_DIR.
 
 #[path = "../tests/build/mod.rs"]
 mod build;
@@ -13,9 +13,9 @@ mod plot;
 mod reference;
 mod timing;
 
-use build::Sheet;
+use build::{Sheet, Trace};
 use cases::{chops, places, waveforms, Advised, Case};
-use fasunqir::{OUTPUT, ROWS, WORDS};
+use fasunqir::{Board, OUTPUT, ROWS, WORDS};
 use std::fmt::Write;
 use std::hint::black_box;
 use std::path::PathBuf;
@@ -125,6 +125,53 @@ fn advice(text: &mut String) {
     writeln!(text).unwrap();
 }
 
+/// What a verdict after each cycle costs: a board opened and fed all cycles, beside one check of them
+/// at the end and beside a check of every beginning of the trace.
+fn boards(text: &mut String) {
+    writeln!(text, "| board | one check at the end µs | a check after each cycle µs | a board µs | a feed µs | board : one check | board : checks |")
+        .unwrap();
+    writeln!(text, "|---|---:|---:|---:|---:|---:|---:|").unwrap();
+    for Case { what, sheet, trace, cycles: count } in cases::boards() {
+        let sheet = sheet.bytes();
+        let cycles: Vec<u16> =
+            trace[4..].chunks(2).map(|word| u16::from_be_bytes([word[0], word[1]])).collect();
+        let beginnings: Vec<Vec<u8>> =
+            (1..=count).map(|end| Trace::new(sheet[4], &cycles[..end]).bytes()).collect();
+        let mut lent = [(); 3].map(|()| (vec![0; WORDS], None));
+        let [at_the_end, after_each, fed] = &mut lent;
+        let check = |trace: &[u8], words: &mut [u64]| {
+            Some(black_box(fasunqir::check_with(&sheet, trace, words)).unwrap())
+        };
+        let [one, each, board] = microseconds([
+            &mut || {
+                let (words, last) = &mut *at_the_end;
+                *last = check(&trace, words);
+            },
+            &mut || {
+                let (words, last) = &mut *after_each;
+                for beginning in &beginnings {
+                    *last = check(beginning, words);
+                }
+            },
+            &mut || {
+                let (words, last) = &mut *fed;
+                let mut board = Board::open(&sheet).unwrap();
+                for &cycle in &cycles {
+                    black_box(board.feed_with(cycle, words)).unwrap();
+                }
+                *last = board.verdict();
+            },
+        ]);
+        let same = lent.iter().all(|(_, last)| *last == lent[0].1);
+        assert!(same, "{what}: the verdicts differ");
+        let feed = board / count as f64;
+        let (to_one, to_each) = (board / one, board / each);
+        writeln!(text, "| {what} | {one:.1} | {each:.1} | {board:.1} | {feed:.1} | {to_one:.1} | {to_each:.2} |")
+            .unwrap();
+    }
+    writeln!(text).unwrap();
+}
+
 fn translations(text: &mut String) {
     writeln!(text, "| translate | nodes read | nodes written | µs | read a µs | written a µs |")
         .unwrap();
@@ -223,6 +270,7 @@ fn main() {
     write_rows(&mut text, "check", &checks);
     write_rows(&mut text, "table", &tables);
     advice(&mut text);
+    boards(&mut text);
     translations(&mut text);
     texts(&mut text);
     print!("{text}");

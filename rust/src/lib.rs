@@ -1,10 +1,11 @@
 //! Sheets are timing diagrams with limited liveness, traces are what was observed. [`read_text`]
 //! reads a sheet as it is typed, [`check`] says which clause of a sheet a trace breaks and where and
 //! which advice fails, [`table`] on which intervals a formula of the sheet holds, and [`translate`]
-//! writes the sheet as a QDDC formula.
+//! writes the sheet as a QDDC formula. A [`Board`] takes the cycles of a trace one by one as they
+//! arrive, and has the verdict so far.
 //!
-//! The four operations are proved in Rattle; this crate gives them Rust types and adds nothing to
-//! them. Sheets and traces are bytes in the stored layout.
+//! These operations are proved in Rattle; this crate gives them Rust types and adds nothing to them.
+//! Sheets and traces are bytes in the stored layout.
 //!
 //! ```
 //! use fasunqir::{check, read_text, Finding, Place};
@@ -21,10 +22,14 @@
 //! assert_eq!(verdict.to_string(), "BROKEN 0 2 2 2 0");
 //! ```
 
+mod board;
+
+pub use board::{Board, CYCLES, SHEET};
+
 use std::error::Error;
 use std::fmt;
 
-/// Words of 64 bits that check and table borrow, at least.
+/// Words of 64 bits that check, table and a board's feed borrow, at least.
 pub const WORDS: usize = 4096;
 
 /// Rows of an interval table.
@@ -71,6 +76,25 @@ mod boundary {
             text_len: usize,
             out: *mut u8,
             out_len: usize,
+        ) -> u64;
+
+        pub fn fasunqir_open(
+            sheet: *const u8,
+            sheet_len: usize,
+            board_sheet: *mut u8,
+            cycles: *mut u16,
+            taken: *mut usize,
+            verdict: *mut u64,
+        ) -> u64;
+
+        pub fn fasunqir_feed(
+            board_sheet: *const u8,
+            cycles: *mut u16,
+            taken: *mut usize,
+            verdict: *mut u64,
+            cycle: u16,
+            words: *mut u64,
+            words_len: usize,
         ) -> u64;
     }
 }
@@ -153,8 +177,8 @@ impl fmt::Display for Verdict {
     }
 }
 
-/// Why an operation gave no answer: the lowest of the numbers 1–17 that applies. [`read_text`] asks
-/// 18, 19 and 20 before them.
+/// Why an operation gave no answer: the lowest of the numbers 1–22 that applies. Only [`read_text`]
+/// doesn't go by their order: it asks 18, 19 and 20 before the others.
 ///
 /// ```
 /// let refusal = fasunqir::check(&[], &[]).unwrap_err();
@@ -169,7 +193,7 @@ pub struct Refusal {
     number: u8,
 }
 
-const REFUSALS: [&str; 20] = [
+const REFUSALS: [&str; 22] = [
     "the sheet has under 9 bytes or bytes 0–1 aren't its length less 2",
     "the sheet's version isn't 1",
     "the sheet's kind isn't 1",
@@ -192,10 +216,12 @@ const REFUSALS: [&str; 20] = [
     "over 32 round brackets are open at a place",
     "the text is outside the grammar",
     "more than 64 nodes or 8 clauses",
+    "a cycle has a bit from s up",
+    "a 65th cycle",
 ];
 
 impl Refusal {
-    /// The number, 1–20.
+    /// The number, 1–22.
     pub fn number(self) -> u8 {
         self.number
     }
@@ -291,7 +317,7 @@ pub fn check(sheet: &[u8], trace: &[u8]) -> Result<Verdict, Refusal> {
 /// ```
 pub fn check_with(sheet: &[u8], trace: &[u8], words: &mut [u64]) -> Result<Verdict, Refusal> {
     // Each pointer is of a live slice of the length that goes with it, and the operation keeps none.
-    let answer = unsafe {
+    checked(unsafe {
         boundary::fasunqir_check(
             sheet.as_ptr(),
             sheet.len(),
@@ -300,12 +326,7 @@ pub fn check_with(sheet: &[u8], trace: &[u8], words: &mut [u64]) -> Result<Verdi
             words.as_mut_ptr(),
             words.len(),
         )
-    };
-    match unpack(answer) {
-        Answer::Verdict(verdict) => Ok(verdict),
-        Answer::Refused(refusal) => Err(refusal),
-        Answer::Done(_) => panic!("no answer of a check: {answer:#x}"),
-    }
+    })
 }
 
 /// On which intervals formula node `node` of a sheet holds, name u marked at `cycles[u]`; the cycles
@@ -360,7 +381,7 @@ pub fn table_with(
 ) -> Result<(), Refusal> {
     let [c0, c1, c2] = cycles;
     // Each pointer is of a live slice of the length that goes with it, and the operation keeps none.
-    let answer = unsafe {
+    filled(unsafe {
         boundary::fasunqir_table(
             sheet.as_ptr(),
             sheet.len(),
@@ -375,12 +396,7 @@ pub fn table_with(
             rows.as_mut_ptr(),
             rows.len(),
         )
-    };
-    match unpack(answer) {
-        Answer::Done(0) => Ok(()),
-        Answer::Refused(refusal) => Err(refusal),
-        _ => panic!("no answer of a table: {answer:#x}"),
-    }
+    })
 }
 
 /// The QDDC formula of a sheet, as the bytes of a sheet of kind 2. It is true of a trace exactly
@@ -456,6 +472,24 @@ pub fn read_text_into(text: &[u8], out: &mut [u8]) -> Result<usize, Refusal> {
     written(unsafe {
         boundary::fasunqir_read_text(text.as_ptr(), text.len(), out.as_mut_ptr(), out.len())
     })
+}
+
+/// The verdict that an operation gave.
+fn checked(answer: u64) -> Result<Verdict, Refusal> {
+    match unpack(answer) {
+        Answer::Verdict(verdict) => Ok(verdict),
+        Answer::Refused(refusal) => Err(refusal),
+        Answer::Done(_) => panic!("no answer of a check: {answer:#x}"),
+    }
+}
+
+/// What an operation was lent is filled as it says, and there is no length to tell.
+fn filled(answer: u64) -> Result<(), Refusal> {
+    match unpack(answer) {
+        Answer::Done(0) => Ok(()),
+        Answer::Refused(refusal) => Err(refusal),
+        _ => panic!("no answer of a table or a new board: {answer:#x}"),
+    }
 }
 
 /// The length of the sheet that an operation wrote.

@@ -1,5 +1,5 @@
-//! What is lent to check, table and translate, before and after; buffers one too short, just long
-//! enough and much too long. For typed sheets `texts` has the same.
+//! What is lent to check, table, translate and a board, before and after; buffers one too short, just
+//! long enough and much too long. For typed sheets `texts` has the same.
 
 mod build;
 mod cases;
@@ -7,6 +7,7 @@ mod compare;
 mod reference;
 
 use cases::{advice, examples, paper, Case};
+use compare::board::Boards;
 
 fn all() -> Vec<Case> {
     let mut cases = vec![examples::program()];
@@ -16,13 +17,30 @@ fn all() -> Vec<Case> {
     cases
 }
 
+const WORDS: [usize; 8] = [0, 1, 64, 4095, 4096, 4097, 8192, 100_000];
+
 #[test]
 fn words() {
     for case in all() {
-        for words in [0, 1, 64, 4095, 4096, 4097, 8192, 100_000] {
+        for words in WORDS {
             let found = compare::check(&case.sheet, &case.trace, words);
             let expected = if words < 4096 { Err(15) } else { Ok(case.verdict) };
             assert_eq!(found, expected, "{}, {words} words", case.what);
+        }
+    }
+}
+
+/// A board that is fed the trace cycle by cycle, in as many words each time.
+#[test]
+fn boards() {
+    for case in all() {
+        let source = reference::stored::sheet(&case.sheet).unwrap();
+        let trace = reference::stored::trace(&case.trace, &source).unwrap();
+        for words in WORDS {
+            let mut boards = Boards::open(&case.sheet).unwrap();
+            let last = trace.iter().map(|&cycle| boards.feed(cycle, words)).last().unwrap();
+            let expected = if words < 4096 { Err(15) } else { Ok(case.verdict) };
+            assert_eq!(last, expected, "{}, {words} words", case.what);
         }
     }
 }
@@ -62,6 +80,7 @@ fn again() {
                 for case in &cases {
                     compare::check(&case.sheet, &case.trace, 4096).unwrap();
                     compare::translate(&case.sheet, 8192).ok().unwrap();
+                    Boards::open(&case.sheet).unwrap().feed(0, 4096).unwrap();
                 }
             });
         }

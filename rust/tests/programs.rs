@@ -10,24 +10,78 @@ use build::{hex, Sheet};
 use cases::{advice, examples, names, paper, Case};
 use compare::{Tally, TextTally, Translated};
 use generate::text::{typed, Flaw, TextShape};
-use generate::{damaged, Random, Shape};
+use generate::{damaged, Random, Shape, DRAWS};
 use reference::{formula, program};
-use std::io::Write;
+use std::io::{BufRead, BufReader, Write};
 use std::path::PathBuf;
-use std::process::{Command, Stdio};
+use std::process::{Child, ChildStdin, Command, Stdio};
+use std::sync::mpsc::{channel, Receiver, RecvTimeoutError};
+use std::time::Duration;
 
-/// What a program writes for its input.
-fn written(name: &str, input: &[u8]) -> Vec<u8> {
+/// A program that was started, its input and output in our hands.
+fn started(name: &str) -> Child {
     let programs = std::env::var_os("FASUNQIR_PROGRAMS").expect("FASUNQIR_PROGRAMS isn't set");
     let path = PathBuf::from(programs).join(name);
-    let mut child = Command::new(&path)
+    Command::new(&path)
         .stdin(Stdio::piped())
         .stdout(Stdio::piped())
         .spawn()
-        .unwrap_or_else(|error| panic!("{}: {error}", path.display()));
+        .unwrap_or_else(|error| panic!("{}: {error}", path.display()))
+}
+
+/// What a program writes for its input.
+fn written(name: &str, input: &[u8]) -> Vec<u8> {
+    let mut child = started(name);
     // The program may end before it has taken a long input.
     child.stdin.take().unwrap().write_all(input).ok();
     child.wait_with_output().unwrap().stdout
+}
+
+/// A program that is watched: its lines come one by one, as soon as they are written.
+struct Watched {
+    child: Child,
+    input: Option<ChildStdin>,
+    lines: Receiver<String>,
+}
+
+/// A line or the end comes within moments, or else the program waits for something.
+const MOMENTS: Duration = Duration::from_secs(20);
+
+impl Watched {
+    fn new(name: &str) -> Self {
+        let mut child = started(name);
+        let input = child.stdin.take();
+        let mut output = BufReader::new(child.stdout.take().unwrap());
+        let (sender, lines) = channel();
+        std::thread::spawn(move || loop {
+            let mut line = String::new();
+            if output.read_line(&mut line).unwrap() == 0 || sender.send(line).is_err() {
+                break;
+            }
+        });
+        Watched { child, input, lines }
+    }
+
+    fn write(&mut self, bytes: &[u8]) {
+        self.input.as_mut().unwrap().write_all(bytes).unwrap();
+    }
+
+    fn line(&self) -> String {
+        self.lines.recv_timeout(MOMENTS).expect("no line was written")
+    }
+
+    /// The program ends by itself, with nothing more to say.
+    fn ends(mut self) {
+        let end = self.lines.recv_timeout(MOMENTS);
+        assert_eq!(end, Err(RecvTimeoutError::Disconnected), "the program goes on");
+        assert!(self.child.wait().unwrap().success());
+    }
+
+    /// It ends with its input.
+    fn ends_with_input(mut self) {
+        self.input.take();
+        self.ends();
+    }
 }
 
 fn cases() -> Vec<Case> {
@@ -206,4 +260,105 @@ fn sheettext() {
     }
     tally.demand("sheettext", [250, 60, 500, 40, 15, 15, 30, 0]);
     assert!(tally.numbers[0] >= 15, "long texts came too seldom");
+}
+
+/// The minutes of a trace as `sheetboard` reads them, now and then one with any bits at all.
+fn minutes(random: &mut Random, signals: usize, cycles: usize) -> Vec<u8> {
+    let trace = generate::trace(random, signals, cycles).cycles;
+    let minute = |cycle: u16| if random.one_in(6) { random.next() as u16 } else { cycle };
+    trace.into_iter().map(minute).flat_map(u16::to_be_bytes).collect()
+}
+
+#[test]
+#[ignore = "needs FASUNQIR_PROGRAMS"]
+fn sheetboard() {
+    let mut inputs = odd();
+    let mut random = Random::new(65);
+    // Sheets and their minutes, the first of them cut after every byte.
+    let given = cases().into_iter().chain(advised());
+    inputs.extend(given.map(|case| [&case.sheet, &case.trace[4..]].concat()));
+    let first = inputs[odd().len()].clone();
+    inputs.extend((0..first.len()).map(|length| first[..length].to_vec()));
+    for case in 0..300 {
+        let sheet = small(&mut random, case).bytes();
+        let input = [sheet, minutes(&mut random, 2, 5)].concat();
+        inputs.push(if case % 3 == 0 { damaged(&mut random, &input) } else { input });
+    }
+    // Past the 64th minute, and bytes at random after a sheet and from the start.
+    for case in 0..30 {
+        let shape = Shape { signals: 2, names: 0, nodes: 12, clauses: 5, numbers: 20 };
+        let sheet = DRAWS[case % 2](&mut random, shape);
+        let sheet = generate::advised(&mut random, &sheet).bytes();
+        inputs.push([sheet, minutes(&mut random, 2, 90)].concat());
+    }
+    for case in 0..100 {
+        let length = random.below(200);
+        let bytes: Vec<u8> = (0..length).map(|_| random.next() as u8).collect();
+        let shape = Shape { signals: 16, names: 0, nodes: 10, clauses: 2, numbers: 4 };
+        let sheet = generate::drawn(&mut random, shape).bytes();
+        inputs.push(if case % 2 == 0 { [sheet, bytes].concat() } else { bytes });
+    }
+    // Sheets as long as a length field can say: their end is where it says, and only then refused.
+    for length in [482, 1024, 65_537] {
+        let mut sheet = vec![1; length];
+        sheet[..2].copy_from_slice(&(length as u16 - 2).to_be_bytes());
+        inputs.extend([sheet[..length - 1].to_vec(), [&sheet[..], &[0; 100]].concat(), sheet]);
+    }
+    let mut tally = Tally::default();
+    for input in &inputs {
+        let answers = program::answers(input);
+        match &answers {
+            Ok(answers) => answers.iter().for_each(|answer| tally.count(answer)),
+            Err(number) => tally.count(&Err(*number)),
+        }
+        let lines = program::lines(answers).concat();
+        assert_eq!(written("sheetboard", input), lines.as_bytes(), "{}", hex(input));
+    }
+    tally.demand("sheetboard", [500, 100, 300, 300, 0, 0]);
+    tally.demand_advice("sheetboard", [50, 20, 20]);
+    tally.demand_numbers("sheetboard", [1, 4, 5, 6, 21, 22], 5);
+}
+
+fn board_lines(input: &[u8]) -> Vec<String> {
+    program::lines(program::answers(input))
+}
+
+/// A minute's line comes before the next minute is written, and a refused sheet's before the input
+/// ends.
+#[test]
+#[ignore = "needs FASUNQIR_PROGRAMS"]
+fn sheetboard_watched() {
+    let mut random = Random::new(66);
+    for case in 0..40 {
+        let sheet = small(&mut random, case).bytes();
+        // The brute force follows a sheet without names past the 64th minute.
+        let minutes = minutes(&mut random, 2, if case % 4 == 0 { 70 } else { 5 });
+        let lines = board_lines(&[&sheet[..], &minutes].concat());
+        let mut board = Watched::new("sheetboard");
+        match case % 3 {
+            0 => board.write(&sheet),
+            1 => sheet.iter().for_each(|&byte| board.write(&[byte])),
+            _ => sheet.chunks(7).for_each(|bytes| board.write(bytes)),
+        }
+        for (minute, line) in minutes.chunks(2).zip(lines) {
+            // In one piece, or the second byte after the first.
+            match case % 2 {
+                0 => board.write(minute),
+                _ => minute.iter().for_each(|&byte| board.write(&[byte])),
+            }
+            assert_eq!(board.line(), line, "{}", hex(&sheet));
+        }
+        if case % 5 == 0 {
+            board.write(&[0]);
+        }
+        board.ends_with_input();
+    }
+    for case in 0..9 {
+        let mut sheet = small(&mut random, case).bytes();
+        sheet[2 + case % 3] = 99;
+        let mut board = Watched::new("sheetboard");
+        board.write(&sheet);
+        assert_eq!(board.line(), board_lines(&sheet)[0]);
+        board.ends();
+    }
 }

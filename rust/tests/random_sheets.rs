@@ -8,12 +8,9 @@ mod reference;
 
 use build::{from_hex, hex, Part, Role, Sheet};
 use compare::Tally;
-use generate::{damaged, Random, Shape};
+use generate::{damaged, Draw, Random, Shape, DRAWS};
 use reference::clauses::{finding_by, Finding, Rule};
 use reference::stored::{self, is_formula};
-
-type Draw = fn(&mut Random, Shape) -> Sheet;
-const DRAWS: [Draw; 3] = [generate::plain, generate::drawn, generate::marked];
 
 /// Columns of all names together that are still enumerated: cycles · names.
 const COLUMNS: usize = 12;
@@ -468,7 +465,6 @@ fn longer_than_stored() {
 fn damaged_fields() {
     let mut random = Random::new(51);
     let mut tally = Tally::default();
-    let mut numbers = [0; 18];
     for case in 0..40_000 {
         let shape = Shape {
             signals: random.between(1, 3),
@@ -483,29 +479,24 @@ fn damaged_fields() {
         let sheet = if case % 4 != 0 { damaged(&mut random, &sheet) } else { sheet };
         let trace = if case % 4 != 1 { damaged(&mut random, &trace) } else { trace };
         let words = random.pick(&[0, 64, 4095, 4096, 4096, 4096, 4097]);
-        let verdict = compare::check(&sheet, &trace, words);
-        tally.count(&verdict);
-        if let Err(number) = verdict {
-            numbers[number as usize] += 1;
-        }
+        tally.count(&compare::check(&sheet, &trace, words));
         let node = random.below(shape.nodes + 2);
         let places = [0; 3].map(|_| random.below(cycles + 1));
         let rows = random.pick(&[0, 63, 64, 64, 64, 64, 65]);
         let table = compare::table(&sheet, &trace, node, places, words, rows);
         tally.tables += 1;
         if let Err(number @ 16..) = table {
-            numbers[number as usize] += 1;
+            tally.numbers[number as usize] += 1;
         }
         let out = random.pick(&[0, 8191, 8192, 8192, 8192, 8193]);
         match compare::translate(&sheet, out) {
             Ok(_) => tally.formulas += 1,
-            Err(14) => numbers[14] += 1,
+            Err(14) => tally.numbers[14] += 1,
             Err(_) => (),
         }
     }
     tally.demand("damaged", [200, 40, 120, 20_000, 0, 0]);
-    compare::report(format!("damaged: refusals 1–17 came {:?} times", &numbers[1..]));
-    assert!(numbers[1..].iter().all(|&count| count >= 60), "a number came too seldom");
+    tally.demand_numbers("damaged", 1..=17, 60);
 }
 
 /// Every byte of a few sheets and traces set to every value.

@@ -6,7 +6,8 @@ mod reference;
 
 use build::{hex, Compare, Sheet, Trace};
 use cases::{advice, examples, names, paper, Case};
-use reference::clauses::{finding_by, Rule};
+use reference::board::Board;
+use reference::clauses::{finding_by, Finding, Rule, Verdict};
 use reference::{formula, stored};
 
 fn run(cases: Vec<Case>) {
@@ -41,6 +42,45 @@ fn program_input() {
     input.resize(5000, 0);
     assert_eq!(reference::program::line(&input), "REFUSED 10\n");
     run(vec![case]);
+}
+
+/// The scope paper's sheet on a board: two quiet minutes, refused ones among them, and the third.
+#[test]
+fn board() {
+    let sheet = examples::program().sheet;
+    let lines = |minutes: &[u8]| {
+        let answers = reference::program::answers(&[&sheet, minutes].concat());
+        reference::program::lines(answers).concat()
+    };
+    assert_eq!(lines(&[]), "");
+    assert_eq!(lines(&[0]), "");
+    assert_eq!(lines(&[0, 0, 0, 0, 0, 1, 0]), "HOLDS 0\nHOLDS 0\nBROKEN 0 2 2 2 0\n");
+    assert_eq!(
+        lines(&[0, 0, 0, 2, 0, 0, 128, 1, 0, 1]),
+        "HOLDS 0\nREFUSED 21\nHOLDS 0\nREFUSED 21\nBROKEN 0 2 2 2 0\n"
+    );
+    assert_eq!(reference::program::answers(&sheet[..31]), Err(1));
+
+    let mut board = Board::open(&sheet).unwrap();
+    assert_eq!(board.feed(2, 4095), Err(15));
+    for _ in 0..64 {
+        board.feed(0, 4096).unwrap();
+    }
+    let full = board.verdict;
+    assert!(full.is_some());
+    assert_eq!(
+        [board.feed(1, 4095), board.feed(2, 4096), board.feed(1, 4096)],
+        [15, 21, 22].map(Err)
+    );
+    assert_eq!((board.verdict, board.cycles.len()), (full, 64));
+
+    // By hand: the sheet ends where it says, and only what is taken is looked at.
+    let after = [&sheet[..], &[255; 449]].concat();
+    let by_hand = |cycles: &[u16], taken| Board::by_hand(&after, cycles, taken).feed(0, 4096);
+    let broken = Ok(Verdict { finding: Finding::Broken(0, 0, 0, 0), advice: 0 });
+    assert_eq!(by_hand(&[1, 0, 2, 2], 2), broken);
+    assert_eq!(by_hand(&[1, 0, 2, 2], 3), Err(13));
+    assert_eq!([64, 65, usize::MAX].map(|taken| by_hand(&[0; 64], taken)), [22, 13, 13].map(Err));
 }
 
 #[test]

@@ -1,4 +1,5 @@
-//! Each refusal number, alone and with each higher one: the lowest that applies is the answer.
+//! Each refusal number, alone and with each higher one: the lowest that applies is the answer. For
+//! what a board refuses to be fed `board` has the same.
 
 mod build;
 mod compare;
@@ -6,6 +7,7 @@ mod reference;
 
 use build::Role::*;
 use build::{Compare, Node, Part, Sheet, Symbol, Trace};
+use compare::board::Boards;
 use reference::Number;
 
 /// What an operation is given.
@@ -259,6 +261,7 @@ enum Operation {
     Check,
     Table,
     Translate,
+    Open,
 }
 
 impl Operation {
@@ -268,6 +271,7 @@ impl Operation {
             Operation::Check => matches!(number, 1..=13 | 15) && !what.ends_with("rows"),
             Operation::Table => matches!(number, 1..=13 | 15..=17),
             Operation::Translate => matches!(number, 1..=9 | 14),
+            Operation::Open => matches!(number, 1..=9),
         }
     }
 
@@ -278,11 +282,13 @@ impl Operation {
             Operation::Check => compare::check(&sheet, &trace, words).err(),
             Operation::Table => compare::table(&sheet, &trace, node, cycles, words, rows).err(),
             Operation::Translate => compare::translate(&sheet, out).err(),
+            Operation::Open => Boards::open(&sheet).err(),
         }
     }
 }
 
-const OPERATIONS: [Operation; 3] = [Operation::Check, Operation::Table, Operation::Translate];
+const OPERATIONS: [Operation; 4] =
+    [Operation::Check, Operation::Table, Operation::Translate, Operation::Open];
 
 /// Every role below 3 is taken, in whichever clause.
 #[test]
@@ -315,8 +321,9 @@ fn alone() {
         }
     }
     compare::report(format!(
-        "refusals alone: {} damages, with advice and without, three operations each",
-        damages.len()
+        "refusals alone: {} damages, with advice and without, {} operations each",
+        damages.len(),
+        OPERATIONS.len()
     ));
 }
 
@@ -342,5 +349,6 @@ fn two_at_once() {
             pairs += 1;
         }
     }
-    compare::report(format!("refusals two at once: {pairs} pairs, three operations each"));
+    let operations = OPERATIONS.len();
+    compare::report(format!("refusals two at once: {pairs} pairs, {operations} operations each"));
 }

@@ -37,7 +37,7 @@ lowest-small k rules p h =
       | inr u ↦ (let most = u .1 in omega arith)
     ]
 
-or-small : (a b : ℕ) → a < 100 → b < 100 → orElse a b < 100
+pub or-small : (a b : ℕ) → a < 100 → b < 100 → orElse a b < 100
 unfolding orElse
 or-small a b p q = go (eqb a 0)
   where

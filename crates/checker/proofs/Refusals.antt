@@ -19,11 +19,11 @@ use Rattle.tables.specs.Table.{standing, Inside}
 use Rattle.checker.specs.declared.table.TableAnswer.{TableAnswer}
 use Rattle.checker.specs.Table.{namePlaced, namesPlaced, heeded, placementOf, tableOf, nodeRules, nodeRefusal, orElse, wordsRefusal, tableRefusal, refusedWith, answerFor, tableAnswer, wordsAfter}
 
-or-first : (a b : ℕ) → eqb a 0 ≡ false → orElse a b ≡ a
+pub or-first : (a b : ℕ) → eqb a 0 ≡ false → orElse a b ≡ a
 unfolding orElse
 or-first a b e = rw e
 
-or-second : (a b : ℕ) → a ≡ 0 → orElse a b ≡ b
+pub or-second : (a b : ℕ) → a ≡ 0 → orElse a b ≡ b
 unfolding orElse
 or-second a b e = rw (eq-eqb a 0 e)
 
@@ -77,11 +77,11 @@ names-inside m n p0 p1 p2 l h = record { stands = stands }
     stands (suc (suc zero)) k = heeded-inside m n 2 p2 l (and-right (namePlaced m n 1 p1) (namePlaced m n 2 p2) (and-right (namePlaced m n 0 p0) _ h))
     stands (suc (suc (suc u))) k = absurd (omega arith)
 
-words-few : (words : List ℕ) → length words < leastWords → wordsRefusal words ≡ 15
+pub words-few : (words : List ℕ) → length words < leastWords → wordsRefusal words ≡ 15
 unfolding wordsRefusal lowest
 words-few words l = rw (lt-leb leastWords (length words) l)
 
-words-many : (words : List ℕ) → leastWords ≤ length words → wordsRefusal words ≡ 0
+pub words-many : (words : List ℕ) → leastWords ≤ length words → wordsRefusal words ≡ 0
 unfolding wordsRefusal lowest
 words-many words l = rw (le-leb leastWords (length words) l)
 

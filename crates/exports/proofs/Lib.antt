@@ -1,4 +1,5 @@
--- Laws of packed numbers and of rows put into lent ones.
+-- Laws of packed numbers, of rows put into lent ones, and of a board in lent cells.
 pub mod Packing
 pub mod Unpacking
 pub mod Tabled
+pub mod Cells

@@ -58,7 +58,7 @@ lower x y h = omega arith
 upper : (x y : ℕ) → x < findings → (x + y * findings) / findings ≡ y
 upper x y h = omega arith
 
-back : (a : Answer) → Small a → unpacked (packed a) ≡ a
+pub back : (a : Answer) → Small a → unpacked (packed a) ≡ a
 unfolding unpacked packed pick
 back (Refused number) h =
     let tag : number * 256 % 256 ≡ 0 = omega arith in

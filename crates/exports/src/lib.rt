@@ -1,4 +1,6 @@
 // The check, the table, the translator and the reader of typed sheets for programs in Rust and C: over numbers and slices only, and with nothing to ask of the caller.
+pub mod boards;
+
 use checker::check::Answer;
 use checker::check::Finding;
 use checker::check::Place;

@@ -11,7 +11,7 @@ use lib.ListN.{length, getD, set, take, drop, replicate, length-append, length-r
 use lib.Seq.{sets, length-sets, length-take-le, take-all, take-suc, getD-drop}
 use Rattle.semantics.proofs.Tests.{test}
 use Rattle.stored.specs.Tree.{pick}
-use Rattle.stored.proofs.Written.{drop-after, getD-put}
+use Rattle.stored.proofs.Written.{sets-then, drop-after, getD-put}
 use Rattle.lines.proofs.Copies.{copied-all}
 use Rattle.lines.specs.Lines.{digitsOf, decimalOf, spaced, lineWith, ThreeDigits, refusedWord, refusedText, padded, Put}
 
@@ -70,12 +70,6 @@ decimal-three n h = go (ltb n 10) refl
         omega arith
 
 -- ---- texts put after one another
-sets-then : (x : List ℕ) (at : ℕ) (a b : List ℕ) → sets (sets x at a) (at + length a) b ≡ sets x at (a ++ b)
-sets-then x at [] b = let e : at + 0 ≡ at = omega arith in ap (λ (k : ℕ). sets x k b) e
-sets-then x at (v ∷ a) b =
-    let e : at + suc (length a) ≡ suc at + length a = omega arith in
-    ap (λ (k : ℕ). sets (sets (set x at v) (suc at) a) k b) e ∙ sets-then (set x at v) (suc at) a b
-
 pub put-then : {x y z : List ℕ} {at r e : ℕ} {a b : List ℕ} → Put x y at r a → Put y z r e b → Put x z at e (a ++ b)
 put-then {x} {y} {z} {at} {r} {e} {a} {b} p q =
     record {

@@ -3,3 +3,4 @@ pub mod Line
 pub mod Page
 pub mod Formula
 pub mod Sheet
+pub mod Wall

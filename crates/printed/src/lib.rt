@@ -3,3 +3,4 @@ pub mod formula;
 pub mod line;
 pub mod page;
 pub mod sheet;
+pub mod wall;

@@ -1,4 +1,4 @@
-// What the check program writes: a line with the verdict or with the number of the refusal.
+// What the check and board programs write: a line with the verdict or with the number of the refusal.
 ghost use mathlib.Core.Path.{_≡_};
 ghost use Prim.Native.Nat.{_≤_};
 ghost use lib.ListN.{length, replicate};
@@ -75,12 +75,20 @@ fn blank() -> [u8; MOST_LINE]
     [0; MOST_LINE]
 }
 
+// The line of an answer.
+pub fn answer_line(answer: Answer) -> Line
+    requires { ⌜ Small answer ⌝ }
+    ensures { λ r. ⌜ (r ≡ lineOf (lineText answer)) × (r .length ≤ length (r .bytes)) ⌝ }
+{
+    let mut bytes = blank();
+    let length = put_answer(&mut bytes, answer);
+    Line { bytes, length }
+}
+
 // What the check program writes for its input, short ones too.
 pub fn check_line(input: &[u8]) -> Line
     ensures { λ r. ⌜ (r ≡ lineOf (lineFor (now (input .entry)))) × (r .length ≤ length (r .bytes)) ⌝ }
 {
     let answer = answer_for(input);
-    let mut bytes = blank();
-    let length = put_answer(&mut bytes, answer);
-    Line { bytes, length }
+    answer_line(answer)
 }

@@ -1,6 +1,6 @@
 -- What a written node or header leaves behind: it is read back, and everything else stays.
 use Prim.Native.Nat.{ℕ, zero, suc, _+_, _-_, _*_, _/_, _%_, _≤_, _<_}
-use mathlib.Core.List.{List, [], _∷_}
+use mathlib.Core.List.{List, [], _∷_, _++_}
 use mathlib.Core.Logic.{inl, inr}
 use mathlib.Core.Path.{_≡_, refl, sym, _∙_, ap}
 use native.Mathlib.Nat.{div-add-mod'}
@@ -8,7 +8,7 @@ use native.Mathlib.Omega.{arith}
 use borrow.Author.Tests.{ltb-true, ltb-false}
 use lib.Dec.{ltb}
 use lib.ListN.{length, getD, set, take, drop, length-set}
-use lib.Seq.{sets, length-sets, getD-set-same, getD-set-other, getD-drop, getD-take, drop-set-lt}
+use lib.Seq.{sets, sets-eq, take-at, length-sets, getD-set-same, getD-set-other, getD-drop, getD-take, drop-set-lt}
 use Rattle.stored.specs.declared.Node.{Node}
 use Rattle.stored.specs.Bytes.{word}
 use Rattle.stored.specs.Node.{nodeAt}
@@ -31,6 +31,17 @@ getD-after l p (v ∷ vs) k h =
 pub drop-after : (l : List ℕ) (p : ℕ) (vs : List ℕ) (n : ℕ) → p + length vs ≤ n → drop n (sets l p vs) ≡ drop n l
 drop-after l p [] n h = refl
 drop-after l p (v ∷ vs) n h = drop-after (set l p v) (suc p) vs n (omega arith) ∙ drop-set-lt n l p v (omega arith)
+
+-- bytes put after bytes
+pub sets-then : (x : List ℕ) (at : ℕ) (a b : List ℕ) → sets (sets x at a) (at + length a) b ≡ sets x at (a ++ b)
+sets-then x at [] b = let e : at + 0 ≡ at = omega arith in ap (λ (k : ℕ). sets x k b) e
+sets-then x at (v ∷ a) b =
+    let e : at + suc (length a) ≡ suc at + length a = omega arith in
+    ap (λ (k : ℕ). sets (sets (set x at v) (suc at) a) k b) e ∙ sets-then (set x at v) (suc at) a b
+
+-- bytes put at the front are the front
+pub sets-front : (l vs : List ℕ) → length vs ≤ length l → take (length vs) (sets l 0 vs) ≡ vs
+sets-front l vs h = ap (take (length vs)) (sets-eq vs l 0 (omega arith)) ∙ take-at vs _ (length vs) refl
 
 -- and they are read back
 pub getD-put : (l : List ℕ) (p : ℕ) (vs : List ℕ) (k : ℕ) → p + length vs ≤ length l → k < length vs → getD (sets l p vs) (p + k) 0 ≡ getD vs k 0

@@ -53,6 +53,13 @@ mostClauses = 8
 abbrev pub mostCycles : ℕ
 mostCycles = 64
 
+-- the bytes of the longest sheet of kind 1, and of the longest trace
+abbrev pub mostSheet : ℕ
+mostSheet = clausesEnd mostNodes mostClauses
+
+abbrev pub mostTrace : ℕ
+mostTrace = cyclesStart + cycleSize * mostCycles
+
 -- the bytes that an operation which writes a sheet is lent at least, and the words that check and table borrow
 abbrev pub leastOutput : ℕ
 leastOutput = 8192

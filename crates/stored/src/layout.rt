@@ -47,6 +47,11 @@ pub const MOST_CLAUSES: usize = 8;
 
 pub const MOST_CYCLES: usize = 64;
 
+// The bytes of the longest sheet of kind 1, and of the longest trace.
+pub const MOST_SHEET: usize = NODES_START + NODE_SIZE * MOST_NODES + CLAUSE_SIZE * MOST_CLAUSES;
+
+pub const MOST_TRACE: usize = CYCLES_START + CYCLE_SIZE * MOST_CYCLES;
+
 // The bytes that an operation which writes a sheet is lent at least, and the words that check and table borrow.
 pub const LEAST_OUTPUT: usize = 8192;
 

@@ -14,7 +14,7 @@ ghost use Rattle.stored.specs.Layout.{cyclesStart, cycleSize, mostSignals, most
 ghost use Rattle.traces.specs.Trace.{cycleAt, cycleRight, traceAnswer, traceNumber};
 
 // No bit from s up is set.
-fn is_below(w: usize, s: usize) -> bool
+pub fn is_below(w: usize, s: usize) -> bool
     requires { ⌜ w < 65536 ⌝ }
     ensures { λ r. ⌜ r ≡ ltb w (2 ^ s) ⌝ }
 {

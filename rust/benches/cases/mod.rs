@@ -214,6 +214,16 @@ pub fn checks() -> Vec<Case> {
     cases
 }
 
+/// What a board is fed, 64 cycles: few names and many nodes, and the most placements.
+pub fn boards() -> Vec<Case> {
+    let named = (0..).zip(NAMES).map(|(names, what)| (what, waveforms(names)));
+    let more = [
+        ("64 nodes, 59 chops, 8 clauses", chops()),
+        ("3 names in the premise", three_in_the_premise()),
+    ];
+    named.chain(more).map(|(what, sheet)| case(what, sheet, 64)).collect()
+}
+
 /// A sheet on a trace, with none, one, about half and all that can be of its clauses as advice.
 pub struct Advised {
     pub what: &'static str,

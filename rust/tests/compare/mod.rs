@@ -3,6 +3,8 @@
 
 #![allow(dead_code)]
 
+pub mod board;
+
 use crate::build::{hex, Trace};
 use crate::reference::clauses::{self, Finding, Verdict};
 use crate::reference::{self, formula, stored, Number};
@@ -211,6 +213,8 @@ pub struct Tally {
     pub excused: usize,
     pub broken: usize,
     pub refused: usize,
+    /// Refusals by their number.
+    pub numbers: [usize; 23],
     pub tables: usize,
     pub formulas: usize,
     /// Evaluations of a formula that gave true, and false.
@@ -224,9 +228,13 @@ pub struct Tally {
 
 impl Tally {
     pub fn count(&mut self, answer: &Result<Verdict, Number>) {
-        let Ok(Verdict { finding, advice }) = answer else {
-            self.refused += 1;
-            return;
+        let Verdict { finding, advice } = match answer {
+            Ok(verdict) => verdict,
+            Err(number) => {
+                self.refused += 1;
+                self.numbers[*number as usize] += 1;
+                return;
+            }
         };
         let (count, under) = match finding {
             Finding::Holds => (&mut self.holds, 0),
@@ -263,6 +271,20 @@ impl Tally {
         let counts = [*holds, *excused, *broken, *refused, *truths, *falsehoods];
         let enough = counts.iter().zip(&least).all(|(count, least)| count >= least);
         assert!(enough, "{what}: {counts:?} came, and {least:?} at least are demanded");
+    }
+
+    /// Prints how often each of these refusals came and demands so many at least of each.
+    pub fn demand_numbers(
+        &self,
+        what: &str,
+        numbers: impl IntoIterator<Item = usize>,
+        least: usize,
+    ) {
+        let counts: Vec<_> = numbers.into_iter().map(|n| (n, self.numbers[n])).collect();
+        let times: Vec<_> = counts.iter().map(|(n, count)| format!("{n}: {count}")).collect();
+        report(format!("{what}: refusals by their number, {}", times.join(", ")));
+        let enough = counts.iter().all(|&(_, count)| count >= least);
+        assert!(enough, "{what}: {least} of each are demanded");
     }
 
     /// Prints how many of the verdicts have advice that fails and demands so many at least under

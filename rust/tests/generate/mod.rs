@@ -66,6 +66,12 @@ pub struct Shape {
     pub numbers: usize,
 }
 
+/// A way to draw a sheet.
+pub type Draw = fn(&mut Random, Shape) -> Sheet;
+
+/// The ways that take any shape.
+pub const DRAWS: [Draw; 3] = [plain, drawn, marked];
+
 /// A sheet of random nodes, later ones preferred as operands.
 pub fn plain(random: &mut Random, shape: Shape) -> Sheet {
     let mut sheet = Sheet::new(shape.signals as u8, shape.names as u8);

@@ -4,6 +4,7 @@
 
 #![allow(dead_code, clippy::needless_range_loop)]
 
+pub mod board;
 pub mod clauses;
 pub mod formula;
 pub mod meaning;

@@ -1,10 +1,12 @@
 //! What the programs write for their input.
 
+use super::board::Board;
 use super::clauses::{Finding, Verdict};
 use super::stored::field;
 use super::Number;
 
-/// The sheet ends where its length field says, or with the input; the rest is the trace.
+/// The sheet ends where its length field says, or with the input; the rest is the trace, or the
+/// minutes of a board.
 fn split(input: &[u8]) -> (&[u8], &[u8]) {
     let end = if input.len() < 2 { input.len() } else { input.len().min(2 + field(input, 0)) };
     input.split_at(end)
@@ -20,9 +22,9 @@ pub fn verdict(input: &[u8]) -> Result<Verdict, Number> {
     super::check(sheet, trace, 4096)
 }
 
-/// The line of `sheetcheck`; a verdict's ends with a space and the advice byte in decimal.
-pub fn line(input: &[u8]) -> String {
-    let Verdict { finding, advice } = match verdict(input) {
+/// The line of a verdict, which ends with a space and the advice byte in decimal, or of a refusal.
+fn told(answer: Result<Verdict, Number>) -> String {
+    let Verdict { finding, advice } = match answer {
         Ok(verdict) => verdict,
         Err(number) => return refused(number),
     };
@@ -30,6 +32,30 @@ pub fn line(input: &[u8]) -> String {
         Finding::Holds => format!("HOLDS {advice}\n"),
         Finding::Excused(clause) => format!("EXCUSED {clause} {advice}\n"),
         Finding::Broken(clause, i, j, k) => format!("BROKEN {clause} {i} {j} {k} {advice}\n"),
+    }
+}
+
+/// The line of `sheetcheck`.
+pub fn line(input: &[u8]) -> String {
+    told(verdict(input))
+}
+
+/// The answers of `sheetboard`: one to each whole minute, of two bytes, after the sheet; or the
+/// refusal of the sheet, which is the end.
+pub type Answers = Result<Vec<Result<Verdict, Number>>, Number>;
+
+pub fn answers(input: &[u8]) -> Answers {
+    let (sheet, minutes) = split(input);
+    let mut board = Board::open(sheet)?;
+    let minutes = minutes.chunks_exact(2).map(|word| field(word, 0) as u16);
+    Ok(minutes.map(|minute| board.feed(minute, 4096)).collect())
+}
+
+/// The lines of `sheetboard`.
+pub fn lines(answers: Answers) -> Vec<String> {
+    match answers {
+        Ok(answers) => answers.into_iter().map(told).collect(),
+        Err(number) => vec![refused(number)],
     }
 }
 

@@ -1,10 +1,7 @@
 -- `printed::line::check_line` meets its contract.
-use Prim.Native.Nat.{ℕ}
-use mathlib.Core.List.{List}
-use mathlib.Core.Path.{_∙_, ap, ap₂}
+use mathlib.Core.Path.{_∙_, ap}
 use Rattle.checker.specs.declared.check.Answer.{Answer}
-use Rattle.printed.specs.Line.{lineText, mostLine, lineOf, lineFor}
-use Rattle.lines.proofs.Texts.{put-padded}
+use Rattle.printed.specs.Line.{lineText, lineOf, lineFor}
 use borrow.Author.Needs.{needs}
 use Rattle.printed.proofs.line.check_line.Statement.{statement}
 use Rattle.printed.proofs.line.check_line.Tie as tie
@@ -12,25 +9,19 @@ use Rattle.printed.proofs.line.check_line.Tie as tie
 answer-for-requires : tie.Need-answer-for-requires
 answer-for-requires c κs = search needs
 
-blank-requires : tie.Need-blank-requires
-blank-requires c κs = search needs
-
-slice-aggregate-put-answer : tie.Need-slice-aggregate-put-answer
-slice-aggregate-put-answer c = search needs
-
-put-answer-requires : tie.Need-put-answer-requires
-put-answer-requires c κs = search needs
+answer-line-requires : tie.Need-answer-line-requires
+answer-line-requires c κs = search needs
 
 returns : tie.Need-returns
-unfolding lineOf lineFor
+unfolding lineFor
 returns c =
-    let e = c .before .put-answer .ensures in
-    let w = put-padded mostLine (c .before .before .before .blank .ensures) (e .0) (e .1) in (
-      ap₂ (λ (l : List ℕ) (n : ℕ). record { bytes = l; length = n }) (w .0) (w .1)
-          ∙ ap (λ (x : Answer). lineOf (lineText x)) (c .before .before .before .before .answer-for .ensures .0),
-      w .2,
-    )
+    let e = c .answer-line .ensures in
+    (e .0 ∙ ap (λ (x : Answer). lineOf (lineText x)) (c .before .answer-for .ensures .0), e .1)
 
 pub check-line-spec : {M : Type 1} → statement M
 check-line-spec =
-    tie.close (tie.spec answer-for-requires blank-requires slice-aggregate-put-answer put-answer-requires returns)
+    tie.close
+    (tie.spec
+    answer-for-requires
+    answer-line-requires
+    returns)

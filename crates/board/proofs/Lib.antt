@@ -1,0 +1,6 @@
+-- Laws of the board.
+pub mod Opening
+pub mod Admission
+pub mod Feeds
+pub mod Watched
+pub mod Answers
