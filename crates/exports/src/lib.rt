@@ -1,4 +1,5 @@
-// The check, the table, the translator and the reader of typed sheets for programs in Rust and C: over numbers and slices only, and with nothing to ask of the caller.
+// The check, the table, the translator, the reader of typed sheets and the board for programs in Rust and C: over numbers, arrays and slices
+// only, and with nothing to ask of the caller.
 pub mod boards;
 
 use checker::check::Answer;

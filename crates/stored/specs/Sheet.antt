@@ -65,7 +65,7 @@ nodesRight s =
 unfoldable pub operandsFound : List ℕ → Bool
 operandsFound s = everyBelow (headerOf s .nodes) (operandsRight requirementSorts (nodesOf s))
 
--- 8. Each clause has a type from 1 to 6, a role of at most 1, formula nodes as used roots, and zeros as unused roots and masks.
+-- 8. Each clause has a type from 1 to 6, a role of at most 2, formula nodes as used roots, and zeros as unused roots and masks.
 unfoldable pub clausesRight : List ℕ → Bool
 clausesRight s = everyBelow (headerOf s .clauses) (clauseRightAt (nodesOf s) (headerOf s .nodes) (storedOf s))
 
