@@ -71,6 +71,9 @@ uint64_t fasunqir_open(const uint8_t *sheet, size_t sheet_len, uint8_t board_she
    words are all zero. Refused by the first that applies of 1 to 9, asked of the board's sheet; 13, where more than 64 cycles
    are taken or one of them has a bit from s up; 15; 21, where the cycle has a bit from s up; 22, where 64 are taken already.
 
+   What is broken stays broken: after BROKEN comes BROKEN, there or at an earlier place, or EXCUSED, and after EXCUSED nothing
+   else; a bit of advice stays set.
+
    A board may be made by hand. Its sheet ends where its bytes 0-1 say, or with the array, and what comes after it may be
    anything; so may the cycles that are not taken yet. What *verdict was is not looked at. */
 uint64_t fasunqir_feed(const uint8_t board_sheet[FASUNQIR_SHEET], uint16_t cycles[FASUNQIR_CYCLES], size_t *taken,

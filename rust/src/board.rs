@@ -1,5 +1,7 @@
 //! A sheet laid over cycles as they arrive.
 
+#[cfg(doc)]
+use crate::Finding;
 use crate::{boundary, checked, filled, Refusal, Verdict, WORDS};
 
 /// Bytes that a board keeps its sheet in, as many as the longest sheet has: 64 nodes and 8 clauses.
@@ -127,6 +129,9 @@ impl Board {
     /// one. Refused by the first that applies of 1–9 and 13, where the board was made by hand and
     /// doesn't pass; 21, where the cycle has a bit from s up; 22, where 64 are taken already. The
     /// board is then as it was.
+    ///
+    /// What is broken stays broken: after [`Finding::Broken`] comes `Broken`, there or at an earlier
+    /// place, or [`Finding::Excused`], and after `Excused` nothing else; an advice bit stays set.
     ///
     /// ```
     /// let sheet = fasunqir::read_text(b"2 0\nrequire anti(<s0>:)\n").unwrap();

@@ -78,8 +78,7 @@ fn made_again(random: &mut Random, boards: &Boards) -> Boards {
 }
 
 /// Feeds a new board with the cycles of a random trace, and before each, now and then, with one that
-/// is refused: a bit from s up, too few words, or both. Now and then the board is made again by hand.
-/// A full board is fed three more.
+/// is refused. Now and then the board is made again by hand. A full board is fed three more.
 fn feed(random: &mut Random, counts: &mut Fed, sheet: &Sheet, cycles: usize) {
     let signals = sheet.signals as usize;
     let mut boards = Boards::open(&sheet.bytes()).unwrap();
@@ -88,14 +87,7 @@ fn feed(random: &mut Random, counts: &mut Fed, sheet: &Sheet, cycles: usize) {
     let past = if cycles == CYCLES { 3 } else { 0 };
     for cycle in trace.into_iter().chain(std::iter::repeat_n(0, past)) {
         while random.one_in(3) {
-            let over = if signals < 16 { 1 << random.between(signals, 15) } else { 0 };
-            let few = random.pick(&[0, 64, 4095]);
-            // Without a signal to spare no cycle has a bit too many.
-            let (cycle, words) = match random.below(if over == 0 { 1 } else { 3 }) {
-                0 => (cycle, few),
-                1 => (cycle | over, 4096),
-                _ => (cycle | over, few),
-            };
+            let (cycle, words) = generate::refused_feed(random, signals, cycle);
             let answer = boards.feed(cycle, words);
             assert!(answer.is_err(), "sheet {}", hex(&sheet.bytes()));
             counts.count(sheet, last, answer);

@@ -219,7 +219,20 @@ module _ (b : Board) (shown : Shown) (cycle : ℕ) (words : List ℕ) where
       ∙ ap (withCycle b cycle) answer-unseen
       ∙ sym (next-is b cycle words e)
 
+-- a board's arrays keep their lengths
+sized-more : (b : Board) (cycle : ℕ) (words : List ℕ) → Sized b → Sized (nextBoard b cycle words)
+sized-more b cycle words sized =
+    elim (test (eqb (feedRefusal b cycle words) 0)) [
+      | inl e ↦ next-sized b cycle words (eqb-true (feedRefusal b cycle words) 0 e) sized
+      | inr e ↦ subst Sized (sym (next-same b cycle words e)) sized
+    ]
+
 -- ---- a list of feeds
+pub sized-after : (b : Board) (feeds : List Feed) → Sized b → Sized (boardAfter b feeds)
+unfolding boardAfter
+sized-after b [] sized = sized
+sized-after b (f ∷ feeds) sized = sized-after (nextBoard b (f .cycle) (f .words)) feeds (sized-more b (f .cycle) (f .words) sized)
+
 kept-append : (number cycle : ℕ) (xs ys : List ℕ) → kept number cycle (xs ++ ys) ≡ kept number cycle xs ++ ys
 unfolding kept pick
 kept-append number cycle xs ys =
@@ -228,10 +241,10 @@ kept-append number cycle xs ys =
       | inr e ↦ rw e
     ]
 
-after-more : (b : Board) (feeds : List Feed) (f : Feed) → boardAfter b (feeds ++ (f ∷ [])) ≡ nextBoard (boardAfter b feeds) (f .cycle) (f .words)
+pub after-append : (b : Board) (feeds more : List Feed) → boardAfter b (feeds ++ more) ≡ boardAfter (boardAfter b feeds) more
 unfolding boardAfter
-after-more b [] f = refl
-after-more b (g ∷ feeds) f = after-more (nextBoard b (g .cycle) (g .words)) feeds f
+after-append b [] more = refl
+after-append b (f ∷ feeds) more = after-append (nextBoard b (f .cycle) (f .words)) feeds more
 
 taken-more : (b : Board) (feeds : List Feed) (f : Feed)
     → takenFrom b (feeds ++ (f ∷ [])) ≡ takenFrom b feeds ++ kept (feedRefusal (boardAfter b feeds) (f .cycle) (f .words)) (f .cycle) []
@@ -258,7 +271,8 @@ module _ (b : Board) (feeds : List Feed) (r : Board) (f : Feed) (told : Told b f
       ∙ ap (λ (x : Board). takenFrom b feeds ++ kept (feedRefusal x (f .cycle) (f .words)) (f .cycle) []) (sym (told .after))
 
   last-after : nextBoard r (f .cycle) (f .words) ≡ boardAfter b (feeds ++ (f ∷ []))
-  last-after = ap (λ (x : Board). nextBoard x (f .cycle) (f .words)) (told .after) ∙ sym (after-more b feeds f)
+  unfolding boardAfter
+  last-after = ap (λ (x : Board). nextBoard x (f .cycle) (f .words)) (told .after) ∙ sym (after-append b feeds (f ∷ []))
 
   when-refused : eqb number 0 ≡ false → Told b (feeds ++ (f ∷ [])) (nextBoard r (f .cycle) (f .words))
   unfolding number kept pick
@@ -298,14 +312,6 @@ module _ (b : Board) (feeds : List Feed) (r : Board) (f : Feed) (told : Told b f
         | inr e ↦ when-refused e
       ]
 
-  sized-more : Sized (nextBoard r (f .cycle) (f .words))
-  unfolding number
-  sized-more =
-      elim (test (eqb number 0)) [
-        | inl e ↦ next-sized r (f .cycle) (f .words) (eqb-true (feedRefusal r (f .cycle) (f .words)) 0 e) sized
-        | inr e ↦ subst Sized (sym (next-same r (f .cycle) (f .words) e)) sized
-      ]
-
   -- what words hold that were lent to all the feeds
   module _ (words : List ℕ) (long : length words ≡ length (f .words)) (left : words ≡ wordsLeft (takenFrom b feeds) (f .words)) where
     words-refused : eqb number 0 ≡ false → wordsAfter number words ≡ wordsLeft (takenFrom b (feeds ++ (f ∷ []))) (f .words)
@@ -336,7 +342,7 @@ unfolding boardAfter
 told-from b feeds r told sized [] = subst (λ (l : List Feed). Told b l r) (sym (append-nil feeds)) told
 told-from b feeds r told sized (f ∷ more) =
     subst (λ (l : List Feed). Told b l (boardAfter (nextBoard r (f .cycle) (f .words)) more)) (append-assoc feeds (f ∷ []) more)
-    (told-from b (feeds ++ (f ∷ [])) (nextBoard r (f .cycle) (f .words)) (told-more b feeds r f told sized) (sized-more b feeds r f told sized) more)
+    (told-from b (feeds ++ (f ∷ [])) (nextBoard r (f .cycle) (f .words)) (told-more b feeds r f told sized) (sized-more r (f .cycle) (f .words) sized) more)
 
 -- the claim: after any feeds of any board
 pub told : (b : Board) → Sized b → (feeds : List Feed) → Told b feeds (boardAfter b feeds)
@@ -384,7 +390,7 @@ feeding-more b ws cycles i words r words′ r′ f h er ew =
     let next : r′ ≡ nextBoard r cycle ws = er ∙ next-over r cycle words ws long in
     record {
       bound = omega arith;
-      sized = subst Sized (sym next) (sized-more b feeds r feed (f .told-so-far) (f .sized));
+      sized = subst Sized (sym next) (sized-more r cycle ws (f .sized));
       told-so-far = subst (λ (l : List Feed). Told b l r′) (sym more) (subst (Told b (feeds ++ (feed ∷ []))) (sym next) (told-more b feeds r feed (f .told-so-far) (f .sized)));
       left =
           ew

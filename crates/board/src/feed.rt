@@ -23,6 +23,7 @@ ghost use Rattle.checker.specs.Table.{wordsAfter};
 ghost use Rattle.checker.specs.Check.{checkAnswer, checkRefusal};
 ghost use Rattle.board.specs.Board.{signalsOn, heldRight, shownOf, feedRefusal, admissionOf, feedAnswer, nextBoard};
 ghost use Rattle.board.specs.Feeds.{lent, takenFrom, wordsLeft, Told};
+ghost use Rattle.board.specs.Lasting.{Unhealed};
 
 // How many signals the board's sheet has, where the cycle is taken; or the number of the refusal.
 pub enum Admission {
@@ -123,11 +124,13 @@ impl Board {
     }
 
     // Feeds a cycle: the next board, with the verdict of the check on its cycles; or the board as it was, with the number of the refusal.
-    // The lent words are all zero afterwards, or as they were where a refusal's number is the answer.
+    // The lent words are all zero afterwards, or as they were where a refusal's number is the answer. What was broken on the board is
+    // broken on the next one: that is the last promise.
     pub fn feed(self, cycle: u16, words: &mut [u64]) -> Fed
         ensures { λ r. ⌜ r .board ≡ nextBoard self cycle (now (words .entry)) ⌝ }
         ensures { λ r. ⌜ r .answer ≡ feedAnswer self cycle (now (words .entry)) ⌝ }
         ensures { λ r. ⌜ now (words .exit) ≡ wordsAfter (feedRefusal self cycle (now (words .entry))) (now (words .entry)) ⌝ }
+        ensures { λ r. ⌜ Unhealed self (r .board) ⌝ }
     {
         let admission = admit(self, cycle, words);
         match admission {
@@ -140,10 +143,11 @@ impl Board {
     }
 
     // Feeds cycles one after the other, and hands back the board after the last. That it shows the check's answer on the cycles taken is
-    // the promise.
+    // the first promise, that what was broken stays broken the last.
     pub fn feed_all(self, cycles: &[u16], words: &mut [u64]) -> Board
         ensures { λ r. ⌜ Told self (lent (now (words .entry)) (now (cycles .entry))) r ⌝ }
         ensures { λ r. ⌜ now (words .exit) ≡ wordsLeft (takenFrom self (lent (now (words .entry)) (now (cycles .entry)))) (now (words .entry)) ⌝ }
+        ensures { λ r. ⌜ Unhealed self r ⌝ }
     {
         let mut board = self;
         let mut i = 0;

@@ -90,7 +90,7 @@ count-below-cong zero p q f = refl
 count-below-cong (suc n) p q f =
     ap₂ (λ (x : ℕ) (a : Bool). x + cond a 1 0) (count-below-cong n p q (λ i h. f i (omega arith))) (f n (omega arith))
 
-and-cong : (a p q : Bool) → (a ≡ true → p ≡ q) → a && p ≡ (a && q)
+pub and-cong : (a p q : Bool) → (a ≡ true → p ≡ q) → a && p ≡ (a && q)
 and-cong true p q f = f refl
 and-cong false p q f = refl
 

@@ -5,6 +5,7 @@ pub mod Formula
 pub mod Placement
 pub mod Clause
 pub mod Verdict
+pub mod Lasting
 pub mod Reach
 pub mod Inside
 pub mod Translation

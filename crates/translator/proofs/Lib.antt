@@ -1,2 +1,3 @@
 -- Laws of the translation.
 pub mod Translating
+pub mod Monitor

@@ -314,3 +314,9 @@ pub fn hex(bytes: &[u8]) -> String {
 pub fn from_hex(text: &str) -> Vec<u8> {
     text.split_whitespace().map(|byte| u8::from_str_radix(byte, 16).unwrap()).collect()
 }
+
+/// The bytes of a file of hexadecimal text with comments.
+pub fn hex_file(text: &str) -> Vec<u8> {
+    let lines = text.lines().map(|line| line.split('#').next().unwrap());
+    from_hex(&lines.collect::<Vec<_>>().join(" "))
+}

@@ -1,7 +1,7 @@
 //! Typed sheets with the bytes or the refusal that they are to have.
 
 use crate::build::Role::*;
-use crate::build::{from_hex, Compare, Node, Part, Sheet, Symbol};
+use crate::build::{hex_file, Compare, Node, Part, Sheet, Symbol};
 use crate::reference::Number;
 
 pub struct TextCase {
@@ -90,13 +90,13 @@ fn examples() -> Vec<TextCase> {
             }
         };
     }
-    vec![example!("paper"), example!("reply"), example!("courier")]
-}
-
-/// The bytes of a file of hexadecimal text with comments.
-fn hex_file(text: &str) -> Vec<u8> {
-    let lines = text.lines().map(|line| line.split('#').next().unwrap());
-    from_hex(&lines.collect::<Vec<_>>().join(" "))
+    vec![
+        example!("paper"),
+        example!("reply"),
+        example!("courier"),
+        example!("clocks"),
+        example!("withdrawn"),
+    ]
 }
 
 fn first_lines() -> Vec<TextCase> {

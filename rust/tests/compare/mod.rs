@@ -18,7 +18,7 @@ pub fn report(line: String) {
 
 /// The bytes of a sheet and a trace, also left in files, and the command that lays one over the
 /// other.
-fn kept(sheet: &[u8], trace: &[u8]) -> String {
+pub fn kept(sheet: &[u8], trace: &[u8]) -> String {
     let sum = sheet.iter().chain(trace).fold(7u32, |sum, &b| sum.wrapping_mul(31) + b as u32);
     let folder = format!("target/replay/{sum:08x}");
     let path = std::path::Path::new(env!("CARGO_MANIFEST_DIR")).join(&folder);
@@ -47,7 +47,7 @@ fn number<T>(answer: Result<T, fasunqir::Refusal>) -> Result<T, Number> {
     answer.map_err(|refusal| refusal.number())
 }
 
-fn as_reference(fasunqir::Verdict { finding, advice }: fasunqir::Verdict) -> Verdict {
+pub fn as_reference(fasunqir::Verdict { finding, advice }: fasunqir::Verdict) -> Verdict {
     let finding = match finding {
         fasunqir::Finding::Holds => Finding::Holds,
         fasunqir::Finding::Excused { clause } => Finding::Excused(clause),

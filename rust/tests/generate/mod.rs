@@ -5,7 +5,7 @@
 pub mod text;
 
 use crate::build::Role::*;
-use crate::build::{Node, Part, Role, Sheet, Trace};
+use crate::build::{Compare, Node, Part, Role, Sheet, Trace};
 use crate::reference::stored;
 
 /// Marsaglia's xorshift.
@@ -235,37 +235,127 @@ fn waveform(random: &mut Random, sheet: &mut Sheet, shape: Shape, room: usize) -
 /// A sheet of one commitment whose parts say little but where names are marked, so that premises
 /// hold often and the answer turns on which placements agree.
 pub fn marked(random: &mut Random, shape: Shape) -> Sheet {
-    let mut sheet = Sheet::new(shape.signals as u8, shape.names as u8);
+    alone(random, shape, marked_clause)
+}
+
+pub fn marked_clause(random: &mut Random, sheet: &mut Sheet, shape: Shape) {
     let parts = [0; 3].map(|_| {
-        let mut root = about_marks(random, &mut sheet, shape);
+        let mut root = about_marks(random, sheet, shape);
         while random.one_in(2) {
-            let other = about_marks(random, &mut sheet, shape);
+            let other = about_marks(random, sheet, shape);
             let op = random.pick(&[20, 21, 21, 22]);
             root = sheet.node(op, 0, root.0, other.0);
         }
         let extra = if random.one_in(3) { random.below(1 << shape.names) as u8 } else { 0 };
-        Part(root, reach(&sheet, root) | extra)
+        Part(root, reach(sheet, root) | extra)
     });
     let clause_type = random.pick(&[1, 2, 2, 3, 4, 4, 5, 5, 5, 6, 6, 6]);
-    clause(&mut sheet, clause_type, Commitment, parts);
-    sheet
+    clause(sheet, clause_type, Commitment, parts);
 }
 
 /// A sheet of one commitment whose parts list one another's names, most of them short, so that names
 /// lie before, in and after the intervals of later parts.
 pub fn shared(random: &mut Random, shape: Shape) -> Sheet {
-    let mut sheet = Sheet::new(shape.signals as u8, shape.names as u8);
+    alone(random, shape, shared_clause)
+}
+
+pub fn shared_clause(random: &mut Random, sheet: &mut Sheet, shape: Shape) {
     let listed = random.between(1, (1 << shape.names) - 1) as u8;
     let parts = [0; 3].map(|_| {
         let mut root = sheet.node(24, random.pick(&[1, 2, 2, 3]), 0, random.below(3) as u16);
         if random.one_in(2) {
-            let marks = about_marks(random, &mut sheet, shape);
+            let marks = about_marks(random, sheet, shape);
             root = sheet.node(random.pick(&[20, 21, 21, 21]), 0, root.0, marks.0);
         }
-        Part(root, reach(&sheet, root) | listed)
+        Part(root, reach(sheet, root) | listed)
     });
     let clause_type = random.pick(&[2, 2, 4, 5, 5, 5, 6, 6, 6]);
-    clause(&mut sheet, clause_type, Commitment, parts);
+    clause(sheet, clause_type, Commitment, parts);
+}
+
+/// A clause of clocks and replies: after one signal a reply is due sooner than after another, so that
+/// what starts earlier may be broken later. The reply is the last signal. A clock may end in a named
+/// cycle, and what is said beside the reply may speak of it.
+pub fn timed_clause(random: &mut Random, sheet: &mut Sheet, shape: Shape) {
+    let part = |sheet: &Sheet, root: Node| Part(root, reach(sheet, root));
+    let clause_type = random.between(1, 6);
+    if clause_type == 1 {
+        let early = sheet.slen(Compare::AtMost, random.below(shape.numbers) as u16);
+        let replied = reply(random, sheet, shape);
+        let root = sheet.either(early, replied);
+        return sheet.pref(Commitment, part(sheet, root));
+    }
+    let start = clocks(random, sheet, shape);
+    let start = part(sheet, start);
+    if clause_type == 3 {
+        return sheet.anti(Commitment, start);
+    }
+    let due = reply(random, sheet, shape);
+    let due = part(sheet, due);
+    match clause_type {
+        2 => sheet.init(Commitment, due, start),
+        4 => sheet.implies(Commitment, start, due),
+        _ => {
+            let limit = if random.one_in(2) {
+                clocks(random, sheet, shape)
+            } else {
+                sheet.slen(Compare::Equal, random.below(shape.numbers) as u16)
+            };
+            clause(sheet, clause_type, Commitment, [start, due, part(sheet, limit)]);
+        }
+    }
+}
+
+fn clocks(random: &mut Random, sheet: &mut Sheet, shape: Shape) -> Node {
+    // Two signals where there are two beside the reply.
+    let signals = (shape.signals - 1).max(1);
+    let (first, short) = (random.below(signals), random.below(shape.numbers));
+    let (second, long) = ((first + 1) % signals, short + random.between(1, shape.numbers));
+    let [one, other] = [(first, short), (second, long)].map(|(k, length)| {
+        let signal = sheet.signal(k as u16);
+        let start = sheet.point(signal);
+        let length = sheet.slen(Compare::Equal, length as u16);
+        let clock = sheet.both(start, length);
+        if shape.names == 0 || random.one_in(2) {
+            return clock;
+        }
+        let mark = sheet.mark(random.below(shape.names) as u16);
+        sheet.chop(clock, mark)
+    });
+    sheet.either(one, other)
+}
+
+fn reply(random: &mut Random, sheet: &mut Sheet, shape: Shape) -> Node {
+    let signal = sheet.signal(shape.signals as u16 - 1);
+    let replied = sheet.scount(signal, Compare::AtLeast, 1);
+    if random.one_in(2) {
+        return replied;
+    }
+    let other = about_marks(random, sheet, shape);
+    sheet.node(random.between(21, 22) as u8, 0, replied.0, other.0)
+}
+
+/// A way to draw one clause, with the nodes of its parts.
+pub type DrawClause = fn(&mut Random, &mut Sheet, Shape);
+
+fn alone(random: &mut Random, shape: Shape, draw: DrawClause) -> Sheet {
+    let mut sheet = Sheet::new(shape.signals as u8, shape.names as u8);
+    draw(random, &mut sheet, shape);
+    sheet
+}
+
+/// A sheet of such clauses, as many as its shape has or there is room for.
+pub fn several(random: &mut Random, shape: Shape, draw: DrawClause) -> Sheet {
+    let mut sheet = Sheet::new(shape.signals as u8, shape.names as u8);
+    while sheet.clauses.len() < shape.clauses {
+        let mut longer = sheet.clone();
+        draw(random, &mut longer, shape);
+        if longer.nodes.len() <= 64 {
+            sheet = longer;
+        } else if !sheet.clauses.is_empty() {
+            break;
+        }
+    }
     sheet
 }
 
@@ -320,6 +410,15 @@ pub fn advised(random: &mut Random, sheet: &Sheet) -> Sheet {
     sheet.with_advice(random.between(1, sheet.all_clauses() as usize) as u8)
 }
 
+/// A drawn sheet with the role of each clause drawn anew.
+pub fn in_any_role(random: &mut Random, sheet: &Sheet) -> Sheet {
+    let mut sheet = sheet.clone();
+    for clause in &mut sheet.clauses {
+        clause[1] = random.pick(&[Assumption, Commitment, Commitment, Advice]) as u8;
+    }
+    sheet
+}
+
 /// A trace whose signals mostly keep their value from cycle to cycle.
 pub fn trace(random: &mut Random, signals: usize, cycles: usize) -> Trace {
     let mut word = random.next() as u16;
@@ -335,6 +434,26 @@ pub fn trace(random: &mut Random, signals: usize, cycles: usize) -> Trace {
         })
         .collect();
     Trace::new(signals as u8, &words)
+}
+
+/// A trace whose signals are high now and then.
+pub fn events(random: &mut Random, signals: usize, cycles: usize) -> Trace {
+    let rareness = random.between(3, 9);
+    let mut word = || (0..signals).map(|k| (random.one_in(rareness) as u16) << k).sum();
+    let words: Vec<u16> = (0..cycles).map(|_| word()).collect();
+    Trace::new(signals as u8, &words)
+}
+
+/// A feed that a sound board refuses: the cycle with a bit from s up, too few lent words, or both.
+pub fn refused_feed(random: &mut Random, signals: usize, cycle: u16) -> (u16, usize) {
+    let over = if signals < 16 { 1 << random.between(signals, 15) } else { 0 };
+    let few = random.pick(&[0, 64, 4095]);
+    // Without a signal to spare no cycle has a bit too many.
+    match random.below(if over == 0 { 1 } else { 3 }) {
+        0 => (cycle, few),
+        1 => (cycle | over, 4096),
+        _ => (cycle | over, few),
+    }
 }
 
 /// Bytes changed in one or two places: any field, to any value or a value nearby; or cut, or longer.

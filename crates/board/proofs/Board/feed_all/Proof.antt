@@ -6,6 +6,7 @@ use lib.ListN.{length, take}
 use borrow.Author.Needs.{needs}
 use Rattle.board.specs.Feeds.{lent, takenFrom}
 use Rattle.board.proofs.Feeds.{left-long, Feeding, feeding-none, feeding-more, feeding-done}
+use Rattle.board.proofs.Lasting.{unhealed}
 use Rattle.board.proofs.Board.feed_all.Statement.{statement}
 use Rattle.board.proofs.Board.feed_all.Tie as tie
 
@@ -40,7 +41,7 @@ loop-again c =
     let a = c .before .before .before .before .before .before .before .before .before .before .args in
     let at = c .before .before .before .before .before .before .before .loop in
     let fed = c .before .before .before .feed .ensures in
-    feeding-more (a .self) (a .words .now) (a .cycles .now) (at .i) (at .words) (at .board) _ _ (at .inv) (omega arith) (fed .0) (fed .1 .1)
+    feeding-more (a .self) (a .words .now) (a .cycles .now) (at .i) (at .words) (at .board) _ _ (at .inv) (omega arith) (fed .0) (fed .1 .1 .0)
 
 same-length : tie.Need-same-length Inv-loop μ-loop
 same-length c =
@@ -52,7 +53,8 @@ returns : tie.Need-returns Inv-loop μ-loop
 returns c =
     let a = c .before .before .before .before .args in
     let at = c .before .loop in
-    feeding-done (a .self) (a .words .now) (a .cycles .now) (at .i) (at .words) (at .board) (at .inv) (omega arith)
+    let done = feeding-done (a .self) (a .words .now) (a .cycles .now) (at .i) (at .words) (at .board) (at .inv) (omega arith) in
+    (done .0, (done .1, unhealed (a .self) (lent (a .words .now) (a .cycles .now)) (at .board) (done .0)))
 
 pub feed-all-spec : {M : Type 1} → statement M
 feed-all-spec =

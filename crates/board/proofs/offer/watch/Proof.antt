@@ -31,7 +31,7 @@ returns c =
         (
           λ accepted.
               watched-opened (a .sheet .now) (a .words .now) (a .cycles .now) _ _ accepted new (fed .0),
-          fed .1 ∙ ap (λ (b : Board). wordsLeft (takenFrom b (lent (a .words .now) (a .cycles .now))) (a .words .now)) new,
+          fed .1 .0 ∙ ap (λ (b : Board). wordsLeft (takenFrom b (lent (a .words .now) (a .cycles .now))) (a .words .now)) new,
         ),
       ),
     )

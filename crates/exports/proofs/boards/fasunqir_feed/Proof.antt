@@ -15,7 +15,7 @@ mul-result : tie.Need-mul-result
 mul-result c =
     let a = c .before .before .before .before .before .before .before .before .before .before .before .args in
     let fed = c .before .before .before .before .before .feed .ensures in
-    omega (arith, refused-small (a .bytes .now) (a .cycles .now) (a .taken .now) (a .verdict .now) (a .cycle) (a .words .now) _ _ (fed .1 .0) (fed .1 .1) _ (c .before .answer .given .1))
+    omega (arith, refused-small (a .bytes .now) (a .cycles .now) (a .taken .now) (a .verdict .now) (a .cycle) (a .words .now) _ _ (fed .1 .0) (fed .1 .1 .0) _ (c .before .answer .given .1))
 
 enum-known-answer-2 : tie.Need-enum-known-answer-2
 enum-known-answer-2 c = search needs
@@ -24,7 +24,7 @@ packed-verdict-requires : tie.Need-packed-verdict-requires
 packed-verdict-requires c κs =
     let a = c .before .before .before .before .before .before .before .before .before .before .before .args in
     let fed = c .before .before .before .before .before .feed .ensures in
-    checked-small (a .bytes .now) (a .cycles .now) (a .taken .now) (a .verdict .now) (a .cycle) (a .words .now) _ _ (fed .1 .0) (fed .1 .1) _ (c .before .answer2 .given .1)
+    checked-small (a .bytes .now) (a .cycles .now) (a .taken .now) (a .verdict .now) (a .cycle) (a .words .now) _ _ (fed .1 .0) (fed .1 .1 .0) _ (c .before .answer2 .given .1)
 
 same-length : tie.Need-same-length
 same-length c = search needs
@@ -33,7 +33,7 @@ returns : tie.Need-returns
 returns c =
     let a = c .before .before .before .before .before .before .before .before .before .before .before .args in
     let fed = c .before .before .before .before .before .feed .ensures in
-    feed-kept (a .bytes .now) (a .cycles .now) (a .taken .now) (a .verdict .now) (a .cycle) (a .words .now) _ _ (fed .1 .0) (fed .1 .1) _ (c .before .answer .given .1)
+    feed-kept (a .bytes .now) (a .cycles .now) (a .taken .now) (a .verdict .now) (a .cycle) (a .words .now) _ _ (fed .1 .0) (fed .1 .1 .0) _ (c .before .answer .given .1)
 
 same-length-2 : tie.Need-same-length-2
 same-length-2 c = search needs
@@ -42,7 +42,7 @@ returns-2 : tie.Need-returns-2
 returns-2 c =
     let a = c .before .before .before .before .before .before .before .before .before .before .before .before .before .before .args in
     let fed = c .before .before .before .before .before .before .before .before .feed .ensures in
-    feed-put (a .bytes .now) (a .cycles .now) (a .taken .now) (a .verdict .now) (a .cycle) (a .words .now) _ _ (fed .1 .0) (fed .1 .1) _ _ _ (c .before .before .before .before .answer2 .given .1) (c .before .before .packed-verdict .ensures) (fed .0)
+    feed-put (a .bytes .now) (a .cycles .now) (a .taken .now) (a .verdict .now) (a .cycle) (a .words .now) _ _ (fed .1 .0) (fed .1 .1 .0) _ _ _ (c .before .before .before .before .answer2 .given .1) (c .before .before .packed-verdict .ensures) (fed .0)
 
 pub fasunqir-feed-spec : {M : Type 1} → statement M
 fasunqir-feed-spec =
