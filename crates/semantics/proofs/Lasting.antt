@@ -8,7 +8,7 @@ use mathlib.Core.Logic.{inl, inr}
 use mathlib.Core.Path.{_≡_, refl, sym, _∙_}
 use lib.Dec.{ltb, eqb}
 use lib.ListN.{length}
-use borrow.Author.Tests.{ltb-true, ltb-false, le-leb, eq-eqb}
+use borrow.Author.Tests.{ltb-false, le-leb, eq-eqb}
 use Rattle.semantics.specs.Proposition.{Trace, bit}
 use Rattle.semantics.specs.Clause.{Role, assumption, commitment, advice, Clause, breaks, fails}
 use Rattle.semantics.specs.Verdict.{hasRole, failsAs, someFails, requirement, Place, Finding, Excused, Broken, Holds, firstPlace, excusedOr, brokenOr, findingOf, adviceOf, verdict}
@@ -19,13 +19,6 @@ use Rattle.semantics.proofs.Longer.{longer, breaks-longer, fails-longer
 use Rattle.semantics.proofs.Verdict.{Sooner, place-first}
 
 -- ---- places
-not-above : (x y : ℕ) → (y < x → ⊥) → x ≤ y
-not-above x y never =
-    elim (test (ltb y x)) [
-      | inl l ↦ absurd (never (ltb-true y x l))
-      | inr l ↦ ltb-false y x l
-    ]
-
 less-or : (x y : ℕ) (rest : Bool) → (y < x → ⊥) → (x ≡ y → rest ≡ true) → lessOr x y rest ≡ true
 unfolding lessOr
 less-or x y rest never same =
@@ -33,7 +26,7 @@ less-or x y rest never same =
       | inl e ↦ or-left (ltb x y) (eqb x y && rest) e
       | inr e ↦ (
           let least = ltb-false x y e in
-          let equal : x ≡ y = omega (arith, not-above x y never) in
+          let equal : x ≡ y = omega (arith, never) in
           or-right (ltb x y) (eqb x y && rest) (and-intro (eqb x y) rest (eq-eqb x y equal) (same equal)))
     ]
 
@@ -67,7 +60,8 @@ module _ (σ more : Trace) (number : ℕ) (c : Clause) where
       less-or (is .clause) (was .clause) _ (λ l. omega (arith, number-is, number-was)) (λ e.
       less-or (is .i) (was .i) _ (λ l. none-sooner h (inl l)) (λ ei.
       less-or (is .j) (was .j) _ (λ l. none-sooner h (inr (sym ei, inl l))) (λ ej.
-      le-leb (is .k) (was .k) (not-above (is .k) (was .k) (λ l. none-sooner h (inr (sym ei, inr (sym ej, l))))))))
+      let never : was .k < is .k → ⊥ = λ l. none-sooner h (inr (sym ei, inr (sym ej, l))) in
+      le-leb (is .k) (was .k) (omega (arith, never)))))
 
 -- ---- findings
 as-fails : (r : Role) (σ : Trace) (c : Clause) → failsAs r σ c ≡ true → fails c σ ≡ true

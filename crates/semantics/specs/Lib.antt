@@ -1,4 +1,4 @@
--- What a reader must believe, in the order of document 01: each file restates one of its headings.
+-- What a reader must believe, in the order of document 01: each file restates one of its headings, `Lasting` request 7.
 pub mod Cycles
 pub mod Proposition
 pub mod Formula
