@@ -1,5 +1,5 @@
 //! Links `libexports.a`, the proved library, from `../target/staticlib` or from the directory in
-//! FASUNQIR_LIB_DIR. Without the archive the tests of the reference alone still build. Where
+//! FASUNQIR_LIB_DIR. Without the archive the library compiles, and nothing can be linked. Where
 //! FASUNQIR_OTHER_DIR names the directory of another version's archive, that is linked as well, for
 //! the benchmark `versions`.
 
@@ -45,7 +45,7 @@ fn main() {
     let archive = directory.join("libexports.a");
     println!("cargo:rerun-if-changed={}", archive.display());
     if !archive.exists() {
-        println!("cargo:warning=no {}: only `--test reference_*` can be linked", archive.display());
+        println!("cargo:warning=no {}: `rt staticlib exports` makes it", archive.display());
         return;
     }
     let aligned = align(&archive, &own.join("libexports.a"), "");

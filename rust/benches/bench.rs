@@ -15,7 +15,8 @@ mod timing;
 
 use build::{Sheet, Trace};
 use cases::{chops, places, waveforms, Advised, Case};
-use fasunqir::{Board, OUTPUT, ROWS, WORDS};
+use fasunqir::bytes::{OUTPUT, ROWS, WORDS};
+use fasunqir::Board;
 use std::fmt::Write;
 use std::hint::black_box;
 use std::path::PathBuf;
@@ -40,7 +41,7 @@ fn check(case: Case) -> Row {
     let sheet = sheet.bytes();
     let [library, plain] = microseconds([
         &mut || {
-            black_box(fasunqir::check_with(&sheet, &trace, &mut words)).unwrap();
+            black_box(fasunqir::bytes::check_with(&sheet, &trace, &mut words)).unwrap();
         },
         &mut || {
             black_box(plain::Checker::new(&sheet, &trace).check());
@@ -63,7 +64,8 @@ fn table((case, node): (Case, usize)) -> Row {
     let places = places(cycles);
     let [library, plain, brute] = microseconds([
         &mut || {
-            fasunqir::table_with(&sheet, &trace, node, places, &mut words, &mut rows).unwrap();
+            fasunqir::bytes::table_with(&sheet, &trace, node, places, &mut words, &mut rows)
+                .unwrap();
             black_box(&rows);
         },
         &mut || {
@@ -105,7 +107,7 @@ fn advice(text: &mut String) {
         let mut lent = [(); 4].map(|()| vec![0; WORDS]);
         let [none, one, half, all] = &mut lent;
         let call = |k: usize, words: &mut [u64]| {
-            black_box(fasunqir::check_with(&sheets[k], &trace, words)).unwrap();
+            black_box(fasunqir::bytes::check_with(&sheets[k], &trace, words)).unwrap();
         };
         let times = microseconds([
             &mut || call(0, none),
@@ -140,7 +142,7 @@ fn boards(text: &mut String) {
         let mut lent = [(); 3].map(|()| (vec![0; WORDS], None));
         let [at_the_end, after_each, fed] = &mut lent;
         let check = |trace: &[u8], words: &mut [u64]| {
-            Some(black_box(fasunqir::check_with(&sheet, trace, words)).unwrap())
+            Some(black_box(fasunqir::bytes::check_with(&sheet, trace, words)).unwrap())
         };
         let [one, each, board] = microseconds([
             &mut || {
@@ -155,7 +157,7 @@ fn boards(text: &mut String) {
             },
             &mut || {
                 let (words, last) = &mut *fed;
-                let mut board = Board::open(&sheet).unwrap();
+                let mut board = fasunqir::bytes::open(&sheet).unwrap();
                 for &cycle in &cycles {
                     black_box(board.feed_with(cycle, words)).unwrap();
                 }
@@ -188,10 +190,10 @@ fn translations(text: &mut String) {
     ];
     for (what, sheet) in sheets {
         let bytes = sheet.bytes();
-        let length = fasunqir::translate_into(&bytes, &mut out).unwrap();
+        let length = fasunqir::bytes::translate_into(&bytes, &mut out).unwrap();
         let (read, written) = (sheet.nodes.len(), (length - 9) / 6);
         let [time] = microseconds([&mut || {
-            black_box(fasunqir::translate_into(&bytes, &mut out)).unwrap();
+            black_box(fasunqir::bytes::translate_into(&bytes, &mut out)).unwrap();
         }]);
         writeln!(
             text,
@@ -221,14 +223,14 @@ fn typed() -> [(&'static str, Vec<u8>); 4] {
 fn texts(text: &mut String) {
     writeln!(text, "\n| read text, 64 nodes and 8 clauses | bytes | library µs | plain µs | library, bytes a µs | plain, bytes a µs | library : plain |").unwrap();
     writeln!(text, "|---|---:|---:|---:|---:|---:|---:|").unwrap();
-    let sheet = fasunqir::read_text(&typed()[0].1).unwrap();
+    let sheet = fasunqir::bytes::read_text(&typed()[0].1).unwrap();
     assert_eq!(sheet[6..9], [0, 64, 8]);
     for (what, typed) in typed() {
         let mut outs = [vec![0; OUTPUT], vec![0; OUTPUT]];
         let [out, plain_out] = &mut outs;
         let [library, plain] = microseconds([
             &mut || {
-                black_box(fasunqir::read_text_into(&typed, out)).unwrap();
+                black_box(fasunqir::bytes::read_text_into(&typed, out)).unwrap();
             },
             &mut || {
                 black_box(plain::text::read_text(&typed, plain_out)).unwrap();

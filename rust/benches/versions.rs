@@ -12,7 +12,7 @@ mod reference;
 mod timing;
 
 use cases::{places, Case};
-use fasunqir::{ROWS, WORDS};
+use fasunqir::bytes::{ROWS, WORDS};
 use std::hint::black_box;
 use timing::{microseconds, warm_up};
 

@@ -1,8 +1,9 @@
 //! A sheet laid over cycles as they arrive.
 
+use crate::bytes::{boundary, checked, filled, WORDS};
 #[cfg(doc)]
 use crate::Finding;
-use crate::{boundary, checked, filled, Refusal, Verdict, WORDS};
+use crate::{Error, Operation, Sheet, Verdict};
 
 /// Bytes that a board keeps its sheet in, as many as the longest sheet has: 64 nodes and 8 clauses.
 pub const SHEET: usize = 9 + 6 * 64 + 11 * 8;
@@ -14,18 +15,17 @@ pub const CYCLES: usize = 64;
 /// Each [`feed`] takes one cycle more, or refuses it and leaves the board as it was.
 ///
 /// ```
-/// use fasunqir::{read_text, Board};
+/// use fasunqir::{Board, Sheet};
 ///
 /// // The offer clock: as long as the link is up, an offer has its reply within five minutes.
 /// let (offer, reply, link) = (1 << 0, 1 << 1, 1 << 2);
-/// let sheet = read_text(
-///     b"3 0\n\
-///       assume pref([[s2]]:)\n\
-///       require implies(<s0> & slen = 5:, scount(s1) >= 1:)\n",
-/// )
-/// .unwrap();
+/// let sheet: Sheet = "3 0\n\
+///     assume pref([[s2]]:)\n\
+///     require implies(<s0> & slen = 5:, scount(s1) >= 1:)\n"
+///     .parse()
+///     .unwrap();
 ///
-/// let mut board = Board::open(&sheet).unwrap();
+/// let mut board = Board::open(&sheet);
 /// assert_eq!(board.verdict(), None); // no minute yet
 ///
 /// // The offer is sent in minute 0. For five minutes the reply may still come, and none is late.
@@ -44,7 +44,7 @@ pub const CYCLES: usize = 64;
 /// assert_eq!(board.verdict().unwrap().to_string(), "EXCUSED 0 0");
 /// ```
 ///
-/// [`check`]: crate::check
+/// [`check`]: Sheet::check
 /// [`feed`]: Board::feed
 #[derive(Clone, Debug, PartialEq, Eq)]
 pub struct Board {
@@ -56,18 +56,17 @@ pub struct Board {
 }
 
 impl Board {
-    /// A board on a sheet, with no cycles and no verdict; refused by the lowest of 1–9 that applies
-    /// to the sheet.
-    ///
-    /// ```
-    /// let refusal = fasunqir::Board::open(&[0x00, 0x01, 1]).unwrap_err();
-    /// assert_eq!(refusal.number(), 1);
-    /// ```
-    pub fn open(sheet: &[u8]) -> Result<Board, Refusal> {
+    /// A board on a sheet, with no cycles and no verdict.
+    pub fn open(sheet: &Sheet) -> Board {
+        sheet.board()
+    }
+
+    /// A board on the bytes of a sheet.
+    pub(crate) fn open_bytes(sheet: &[u8]) -> Result<Board, Error> {
         let mut board = Board::from_parts([0; SHEET], [0; CYCLES], 0);
         // The sheet's pointer is of a live slice of its length, the others of arrays as long as the
         // operation asks, and it keeps none.
-        filled(unsafe {
+        let answer = unsafe {
             boundary::fasunqir_open(
                 sheet.as_ptr(),
                 sheet.len(),
@@ -76,7 +75,8 @@ impl Board {
                 &mut board.taken,
                 &mut board.verdict,
             )
-        })?;
+        };
+        filled(Operation::Open, answer)?;
         Ok(board)
     }
 
@@ -89,7 +89,7 @@ impl Board {
     /// ```
     /// use fasunqir::{Board, CYCLES, SHEET};
     ///
-    /// let typed = fasunqir::read_text(b"1 0\nrequire anti(slen = 2:)\n").unwrap();
+    /// let typed = fasunqir::bytes::read_text(b"1 0\nrequire anti(slen = 2:)\n").unwrap();
     /// let mut sheet = [0; SHEET];
     /// sheet[..typed.len()].copy_from_slice(&typed);
     ///
@@ -116,12 +116,12 @@ impl Board {
         &self.cycles[..self.taken.min(CYCLES)]
     }
 
-    /// The verdict last given, which is that of [`check`](crate::check) on the trace of the cycles
+    /// The verdict last given, which is that of [`check`](Sheet::check) on the trace of the cycles
     /// taken; none where no cycle was taken since the board was opened or made by hand.
     pub fn verdict(&self) -> Option<Verdict> {
         match self.verdict {
             0 => None,
-            given => checked(given).ok(),
+            given => checked(Operation::Feed, given).ok(),
         }
     }
 
@@ -134,8 +134,8 @@ impl Board {
     /// place, or [`Finding::Excused`], and after `Excused` nothing else; an advice bit stays set.
     ///
     /// ```
-    /// let sheet = fasunqir::read_text(b"2 0\nrequire anti(<s0>:)\n").unwrap();
-    /// let mut board = fasunqir::Board::open(&sheet).unwrap();
+    /// let sheet = "2 0\nrequire anti(<s0>:)\n".parse().unwrap();
+    /// let mut board = fasunqir::Board::open(&sheet);
     /// for (minute, cycle) in [0b00, 0b10, 0b01].into_iter().enumerate() {
     ///     match board.feed(cycle) {
     ///         Ok(verdict) => println!("{minute}  {verdict}"),
@@ -145,7 +145,7 @@ impl Board {
     /// assert_eq!(board.cycles(), [0b00, 0b10, 0b01]);
     /// assert_eq!(board.verdict().unwrap().to_string(), "BROKEN 0 2 2 2 0");
     /// ```
-    pub fn feed(&mut self, cycle: u16) -> Result<Verdict, Refusal> {
+    pub fn feed(&mut self, cycle: u16) -> Result<Verdict, Error> {
         self.feed_with(cycle, &mut vec![0; WORDS])
     }
 
@@ -153,19 +153,19 @@ impl Board {
     /// 21. Answered, it leaves them all zero, and refused, as they were.
     ///
     /// ```
-    /// let sheet = fasunqir::read_text(b"1 0\nrequire anti(<s0>:)\n").unwrap();
-    /// let mut board = fasunqir::Board::open(&sheet).unwrap();
-    /// let mut words = vec![7; fasunqir::WORDS];
+    /// let sheet = "1 0\nrequire anti(<s0>:)\n".parse().unwrap();
+    /// let mut board = fasunqir::Board::open(&sheet);
+    /// let mut words = vec![7; fasunqir::bytes::WORDS];
     /// for cycle in [0, 0, 1] {
     ///     board.feed_with(cycle, &mut words).unwrap();
     ///     assert!(words.iter().all(|&word| word == 0));
     /// }
     /// assert_eq!(board.feed_with(2, &mut words[1..]).unwrap_err().number(), 15);
     /// ```
-    pub fn feed_with(&mut self, cycle: u16, words: &mut [u64]) -> Result<Verdict, Refusal> {
+    pub fn feed_with(&mut self, cycle: u16, words: &mut [u64]) -> Result<Verdict, Error> {
         // The pointers are of arrays as long as the operation asks and of a live slice of the length
         // that goes with it, and it keeps none.
-        checked(unsafe {
+        let answer = unsafe {
             boundary::fasunqir_feed(
                 self.sheet.as_ptr(),
                 self.cycles.as_mut_ptr(),
@@ -175,6 +175,7 @@ impl Board {
                 words.as_mut_ptr(),
                 words.len(),
             )
-        })
+        };
+        checked(Operation::Feed, answer)
     }
 }

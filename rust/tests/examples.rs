@@ -59,7 +59,7 @@ fn proved_examples() {
 #[test]
 fn program_input() {
     let case = examples::program();
-    let verdict = fasunqir::check(&case.sheet, &case.trace).unwrap();
+    let verdict = fasunqir::bytes::check(&case.sheet, &case.trace).unwrap();
     assert_eq!(verdict.to_string(), "BROKEN 0 2 2 2 0");
     run("program input", vec![case]);
 }
@@ -82,7 +82,7 @@ fn names_that_stay() {
 #[test]
 fn advice_beside_commitments() {
     for advised in advice::cases() {
-        let verdict = fasunqir::check(&advised.case.sheet, &advised.case.trace).unwrap();
+        let verdict = fasunqir::bytes::check(&advised.case.sheet, &advised.case.trace).unwrap();
         assert_eq!(verdict.to_string(), advised.line, "{}", advised.case.what);
         let bits: u8 = verdict.failing_advice().map(|clause| 1 << clause).sum();
         assert_eq!(bits, verdict.advice, "{}", advised.case.what);

@@ -86,14 +86,14 @@ fn again() {
         }
     });
     for case in &cases {
-        let first = fasunqir::check_with(&case.sheet, &case.trace, &mut words);
-        let second = fasunqir::check_with(&case.sheet, &case.trace, &mut words);
+        let first = fasunqir::bytes::check_with(&case.sheet, &case.trace, &mut words);
+        let second = fasunqir::bytes::check_with(&case.sheet, &case.trace, &mut words);
         assert_eq!(first, second, "{}", case.what);
-        assert_eq!(fasunqir::check(&case.sheet, &case.trace), first, "{}", case.what);
-        let formula = fasunqir::translate(&case.sheet).unwrap();
-        assert_eq!(fasunqir::translate(&case.sheet).unwrap(), formula, "{}", case.what);
+        assert_eq!(fasunqir::bytes::check(&case.sheet, &case.trace), first, "{}", case.what);
+        let formula = fasunqir::bytes::translate(&case.sheet).unwrap();
+        assert_eq!(fasunqir::bytes::translate(&case.sheet).unwrap(), formula, "{}", case.what);
         // What the translator wrote is of kind 2, which no operation takes.
-        assert_eq!(fasunqir::check(&formula, &case.trace).unwrap_err().number(), 3);
-        assert_eq!(fasunqir::translate(&formula).unwrap_err().number(), 3);
+        assert_eq!(fasunqir::bytes::check(&formula, &case.trace).unwrap_err().number(), 3);
+        assert_eq!(fasunqir::bytes::translate(&formula).unwrap_err().number(), 3);
     }
 }

@@ -87,7 +87,7 @@ impl Laid {
         let clauses = Clauses::new(source, prefix, Rule::Stays);
         let places: Vec<_> = source.clauses.iter().map(|c| clauses.first_broken(c)).collect();
         for (alone, place) in self.alone.iter().zip(&places) {
-            let found = compare::as_reference(fasunqir::check(alone, &trace).unwrap());
+            let found = compare::as_reference(fasunqir::bytes::check(alone, &trace).unwrap());
             let expected = place.map_or(Holds, |(i, j, k)| Broken(0, i, j, k));
             assert_eq!(found.finding, expected, "{}", compare::kept(alone, &trace));
         }
@@ -410,7 +410,7 @@ fn typed(minutes: &str) -> Vec<u16> {
 }
 
 /// An example whose minutes are typed one by one. On each prefix the library's verdict is the one that
-/// `./sheetboard` is to write, and the example's traces are the minutes up to those given.
+/// `fasunqir board` is to write, and the example's traces are the minutes up to those given.
 fn example(name: &str, ends: &[usize]) -> Counts {
     let root = Path::new(env!("CARGO_MANIFEST_DIR")).parent().unwrap();
     let file = |path: String| std::fs::read_to_string(root.join(path)).unwrap();
@@ -429,9 +429,9 @@ fn example(name: &str, ends: &[usize]) -> Counts {
         if let Some(last) = last.replace(verdict) {
             counts.turn(last, verdict, || compare::kept(&sheet, &trace));
         }
-        written += &format!("{minute:<3}{}\n", fasunqir::check(&sheet, &trace).unwrap());
+        written += &format!("{minute:<3}{}\n", fasunqir::bytes::check(&sheet, &trace).unwrap());
     }
-    let stored = file(format!("runs/sheetboard/{name}.out"));
+    let stored = file(format!("runs/board/{name}.out"));
     assert_eq!(stored.split("status").next(), Some(&written[..]), "{name}");
     counts
 }

@@ -115,6 +115,30 @@ fn with_tails(input: Vec<u8>, read: usize) -> Vec<Vec<u8>> {
     tails.iter().map(|&tail| [input.clone(), vec![0; tail]].concat()).collect()
 }
 
+/// The stored runs: runs/PROGRAM/NAME.hex is the input, NAME.out what is written.
+#[test]
+#[ignore = "needs FASUNQIR_PROGRAMS"]
+fn stored_runs() {
+    let runs = std::path::Path::new(env!("CARGO_MANIFEST_DIR")).join("../runs");
+    let mut count = 0;
+    for folder in std::fs::read_dir(runs).unwrap().map(|folder| folder.unwrap().path()) {
+        if !folder.is_dir() {
+            continue;
+        }
+        for input in std::fs::read_dir(&folder).unwrap().map(|file| file.unwrap().path()) {
+            if input.extension().is_none_or(|extension| extension != "hex") {
+                continue;
+            }
+            let program = folder.file_name().unwrap().to_str().unwrap();
+            let bytes = build::hex_file(&std::fs::read_to_string(&input).unwrap());
+            let expected = std::fs::read(input.with_extension("out")).unwrap();
+            assert_eq!(written(program, &bytes), expected, "{}", input.display());
+            count += 1;
+        }
+    }
+    assert!(count >= 35, "{count} stored runs");
+}
+
 #[test]
 #[ignore = "needs FASUNQIR_PROGRAMS"]
 fn sheetcheck() {

@@ -259,8 +259,8 @@ fn formulas_without_advice() {
         let advised = sheet.with_advice(set).bytes();
         let only_advice = set == sheet.all_clauses();
         if !only_advice {
-            let without = fasunqir::translate(&sheet.without(set).bytes());
-            assert_eq!(fasunqir::translate(&advised), without, "sheet {}", hex(&advised));
+            let without = fasunqir::bytes::translate(&sheet.without(set).bytes());
+            assert_eq!(fasunqir::bytes::translate(&advised), without, "sheet {}", hex(&advised));
         }
         let translated = compare::translate(&advised, 8192).unwrap();
         tally.formulas += 1;

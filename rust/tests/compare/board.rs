@@ -149,7 +149,7 @@ impl Boards {
             Pieces { sheet: [0xEE; SHEET], cycles: [0xBEEF; CYCLES], taken: 99, verdict: u64::MAX };
         let mut pieces = lent.clone();
         let answer = pieces.open(sheet);
-        let library = number(Board::open(sheet));
+        let library = number(fasunqir::bytes::open(sheet));
         match board::Board::open(sheet) {
             Ok(reference) => {
                 assert_eq!(answer, 4, "{}", replay());
@@ -228,7 +228,7 @@ impl Boards {
                 assert_eq!(self.pieces, fed, "{}", replay());
                 let board::Board { sheet, cycles, .. } = &self.reference;
                 let trace = Trace::new(sheet[4], cycles).bytes();
-                let check = number(fasunqir::check(sheet, &trace)).map(as_reference);
+                let check = number(fasunqir::bytes::check(sheet, &trace)).map(as_reference);
                 assert_eq!(check, expected, "{}", replay());
             }
             Err(_) => {

@@ -27,7 +27,7 @@ pub fn kept(sheet: &[u8], trace: &[u8]) -> String {
         && std::fs::write(path.join("sheet.hex"), &sheet).is_ok()
         && std::fs::write(path.join("trace.hex"), &trace).is_ok();
     let command = if written {
-        format!("./sheetcheck rust/{folder}/sheet.hex rust/{folder}/trace.hex")
+        format!("./fasunqir explain rust/{folder}/sheet.hex rust/{folder}/trace.hex")
     } else {
         "the bytes could not be left in files".to_string()
     };
@@ -43,7 +43,7 @@ fn lent_bytes(length: usize) -> Vec<u8> {
     (0..length).map(|i| (i * 37 + 11) as u8).collect()
 }
 
-fn number<T>(answer: Result<T, fasunqir::Refusal>) -> Result<T, Number> {
+fn number<T>(answer: Result<T, fasunqir::Error>) -> Result<T, Number> {
     answer.map_err(|refusal| refusal.number())
 }
 
@@ -52,6 +52,7 @@ pub fn as_reference(fasunqir::Verdict { finding, advice }: fasunqir::Verdict) ->
         fasunqir::Finding::Holds => Finding::Holds,
         fasunqir::Finding::Excused { clause } => Finding::Excused(clause),
         fasunqir::Finding::Broken(Place { clause, i, j, k }) => Finding::Broken(clause, i, j, k),
+        other => panic!("no finding of the papers: {other}"),
     };
     Verdict { finding, advice }
 }
@@ -73,7 +74,7 @@ pub fn check(sheet: &[u8], trace: &[u8], words: usize) -> Result<Verdict, Number
     let replay = || format!("check, {words} words\n{}", kept(sheet, trace));
     let before = lent(words);
     let mut after = before.clone();
-    let found = number(fasunqir::check_with(sheet, trace, &mut after)).map(as_reference);
+    let found = number(fasunqir::bytes::check_with(sheet, trace, &mut after)).map(as_reference);
     assert_eq!(found, reference::check(sheet, trace, words), "{}", replay());
     words_after(&found, &before, &after, replay);
     found
@@ -95,7 +96,8 @@ pub fn table(
     let mut after = before.clone();
     let rows_before = lent(rows);
     let mut rows_after = rows_before.clone();
-    let answer = fasunqir::table_with(sheet, trace, node, cycles, &mut after, &mut rows_after);
+    let answer =
+        fasunqir::bytes::table_with(sheet, trace, node, cycles, &mut after, &mut rows_after);
     let found = number(answer).map(|()| <[u64; 64]>::try_from(&rows_after[..64]).unwrap());
     assert_eq!(found, reference::table(sheet, trace, node, cycles, words, rows), "{}", replay());
     words_after(&found, &before, &after, replay);
@@ -117,7 +119,7 @@ pub fn translate(sheet: &[u8], out: usize) -> Result<Translated, Number> {
     let replay = || format!("translate into {out} bytes\nsheet {}", hex(sheet));
     let before = lent_bytes(out);
     let mut after = before.clone();
-    let found = number(fasunqir::translate_into(sheet, &mut after));
+    let found = number(fasunqir::bytes::translate_into(sheet, &mut after));
     let source = match (reference::translate(sheet, out), &found) {
         (Ok(source), Ok(_)) => source,
         (Err(expected), Err(number)) => {
@@ -163,7 +165,7 @@ pub fn read_text(text: &[u8], out: usize) -> Result<Vec<u8>, Number> {
     };
     let before = lent_bytes(out);
     let mut after = before.clone();
-    let length = number(fasunqir::read_text_into(text, &mut after));
+    let length = number(fasunqir::bytes::read_text_into(text, &mut after));
     let written = *length.as_ref().unwrap_or(&0);
     assert!(written <= out, "length {written}\n{}", replay());
     let found = length.map(|length| after[..length].to_vec());

@@ -124,6 +124,44 @@ impl<'a> Clauses<'a> {
         }
     }
 
+    /// Whether the clause is broken at i, j and k with just these names, those of its premise, on just
+    /// these cycles.
+    pub fn breaks_with(&self, clause: &Clause, (i, j, k): Cycles, names: Placement) -> bool {
+        let part = |p: usize| Part { root: clause.roots[p], names: clause.masks[p] };
+        let (d1, d2, d3) = (part(0), part(1), part(2));
+        let of = |part: Part| [0, 1, 2].map(|name| names[name].filter(|_| part.has(name)));
+        let only = |mask: u8| (0..3).all(|name| names[name].is_some() == has(mask, name));
+        let placed = |part: Part, before: u8, x, y| {
+            self.placements(part, before, x, y).contains(&of(part))
+                && self.on(part, &of(part), x, y)
+        };
+        let unanswered = |part: Part,
+                          earlier: &[(Part, &Placement)],
+                          x,
+                          mut ends: std::ops::RangeInclusive<usize>| {
+            !ends.any(|l| self.given(part, earlier, x, l))
+        };
+        match clause.clause_type {
+            1 => only(0) && self.pref_breaks(d1, j),
+            2 => {
+                only(d2.names) && placed(d2, 0, 0, j) && unanswered(d1, &[(d2, &of(d2))], 0, 0..=j)
+            }
+            3 => only(d1.names) && placed(d1, 0, i, j),
+            4 => {
+                only(d1.names) && placed(d1, 0, i, j) && unanswered(d2, &[(d1, &of(d1))], i, j..=j)
+            }
+            5 | 6 => {
+                let x = if clause.clause_type == 5 { j } else { i };
+                only(d1.names | d3.names)
+                    && placed(d1, 0, i, j)
+                    && placed(d3, d1.names, x, k)
+                    && self.shortest(d3, &of(d3), x, k)
+                    && unanswered(d2, &[(d1, &of(d1)), (d3, &of(d3))], x, x..=k)
+            }
+            clause_type => panic!("no clause type: {clause_type}"),
+        }
+    }
+
     fn intervals(&self) -> impl Iterator<Item = (usize, usize)> {
         let cycles = self.cycles;
         (0..cycles).flat_map(move |i| (i..cycles).map(move |j| (i, j)))
