@@ -11,7 +11,7 @@ use lib.Bits.{bitAnd, bitOr, and-le-l, and-lt, or-lt}
 use borrow.Author.Tests.{ltb-true, ltb-false, leb-true, lt-ltb, le-leb, eqb-true, eqb-false}
 use Rattle.semantics.specs.Proposition.{bit}
 use Rattle.rows.specs.Row.{word, row, always}
-use Rattle.semantics.proofs.Tests.{same, test, false-not, both, and-left, and-right, and-false, or-left, or-right, or-elim}
+use Rattle.semantics.proofs.Tests.{same, test, false-not, both, and-left, and-right, or-left, or-right, or-elim}
 use Rattle.semantics.proofs.Bits.{bit-lowest, bit-higher}
 use Rattle.rows.proofs.Bits.{bit-above, bit-and, bit-or, bit-not, bit-nothing, same-bits}
 
@@ -126,9 +126,6 @@ pub row-small : (n : ℕ) (h : ℕ → ℕ → Bool) (b : ℕ) → row n h b < 2
 unfolding row
 row-small n h b = word-small n (λ e. leb b e && h b e)
 
-pub row-fits : (n : ℕ) (h : ℕ → ℕ → Bool) (b : ℕ) → n ≤ 64 → row n h b < 2 ^ 64
-row-fits n h b l = wider n 64 (row n h b) l (row-small n h b)
-
 pub row-bit : (n : ℕ) (h : ℕ → ℕ → Bool) (b e : ℕ) → bit (row n h b) e ≡ (ltb e n && (leb b e && h b e))
 unfolding row
 row-bit n h b e = word-all n (λ e. leb b e && h b e) e
@@ -190,15 +187,6 @@ row-none n h b f =
 -- no interval starts past the last cycle
 pub row-past : (n : ℕ) (h : ℕ → ℕ → Bool) (b : ℕ) → n ≤ b → 0 ≡ row n h b
 row-past n h b l = row-none n h b (λ e x y. absurd (omega arith))
-
--- a row grows by a cycle
-pub row-set : (h : ℕ → ℕ → Bool) (b e : ℕ) → b ≤ e → e < 64 → h b e ≡ true → bitOr (row e h b) (word 64 (eqb e)) ≡ row (e + 1) h b
-unfolding row
-row-set h b e l m t = word-set 64 e (λ e. leb b e && h b e) m (both (le-leb b e l) t)
-
-pub row-unset : (h : ℕ → ℕ → Bool) (b e : ℕ) → h b e ≡ false → row e h b ≡ row (e + 1) h b
-unfolding row
-row-unset h b e t = word-unset e (λ e. leb b e && h b e) (ap (λ (c : Bool). leb b e && c) t ∙ and-false (leb b e))
 
 -- rows joined by and, or
 pub row-and : (n : ℕ) (h g : ℕ → ℕ → Bool) (b : ℕ) → bitAnd (row n h b) (row n g b) ≡ row n (λ b e. h b e && g b e) b

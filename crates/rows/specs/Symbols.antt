@@ -39,3 +39,7 @@ pub record After (b number r : ℕ) : Type 0 where
 -- a set that has the cycle e from b on exactly if e − b passes
 pub record Distant (c : formula.Comparison) (b number set : ℕ) : Type 0 where
   pub passes : (e : ℕ) → b ≤ e → e < 64 → bit set e ≡ formula.compared c (e - b) number
+
+-- a set that has the cycle e from b on exactly if the count up to e passes
+pub record Counted (c : formula.Comparison) (column number last b set : ℕ) : Type 0 where
+  pub passes : (e : ℕ) → b ≤ e → e < 64 → bit set e ≡ countedTo c column number last b e

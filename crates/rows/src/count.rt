@@ -3,12 +3,12 @@ ghost use mathlib.Core.Path.{_≡_};
 ghost use Prim.Native.Nat.{_+_, _-_, _<_, _≤_};
 ghost use Rattle.semantics.specs.Cycles.{countFrom, countIn};
 ghost use Rattle.semantics.specs.Proposition.{bit};
-ghost use Rattle.semantics.specs.Formula.{compared};
+ghost use Rattle.semantics.specs.Formula.{compared, atLeast, above};
 ghost use Rattle.rows.specs.Row.{row};
-ghost use Rattle.rows.specs.Symbols.{comparisonOf, countedTo, After, Distant};
+ghost use Rattle.rows.specs.Symbols.{comparisonOf, countedTo, After, Distant, Counted};
+use crate::mask::ALL;
 use crate::mask::below;
 use crate::mask::cycles_from;
-use crate::mask::only;
 use crate::mask::up_to;
 
 // <, ≤, =, ≥, >
@@ -20,24 +20,51 @@ pub enum Comparison {
     Above,
 }
 
-fn compare(comparison: Comparison, x: usize, number: usize) -> bool
-    ensures { λ r. ⌜ r ≡ compared (comparisonOf comparison) x number ⌝ }
+// The cycles e from b on, and others before it, where the column has more than `number` cycles from b to e, e itself counted if `last`
+// is 1. The ones say whether there are so many at all. If so, the lowest are dropped one by one: the count is passed at the first cycle
+// that is left without `number` of them.
+fn more_than(column: u64, number: usize, last: usize, b: usize) -> u64
+    requires { ⌜ last ≤ 1 ⌝ }
+    ensures { λ r. ⌜ Counted above column number last b r ⌝ }
 {
-    match comparison {
-        Comparison::Below => x < number,
-        Comparison::AtMost => x <= number,
-        Comparison::Equal => x == number,
-        Comparison::AtLeast => number <= x,
-        Comparison::Above => number < x,
+    let mut left = column & !below(b);
+    if u64::count_ones(left) as usize <= number {
+        return 0;
+    }
+    let mut more = number;
+    while 0 < more {
+        left &= left - 1;
+        more -= 1;
+    }
+    !below(u64::trailing_zeros(left) as usize + 1 - last)
+}
+
+// The same, where it has at least `number`.
+fn at_least(column: u64, number: usize, last: usize, b: usize) -> u64
+    requires { ⌜ last ≤ 1 ⌝ }
+    ensures { λ r. ⌜ Counted atLeast column number last b r ⌝ }
+{
+    if number == 0 {
+        ALL
+    } else {
+        more_than(column, number - 1, last, b)
     }
 }
 
-// How many cycles from b up to but without e a column has.
-fn count(column: u64, b: usize, e: usize) -> usize
-    requires { ⌜ e ≤ 64 ⌝ }
-    ensures { λ r. ⌜ r ≡ countFrom b e (bit column) ⌝ }
+// The same, where the count passes.
+fn passing(comparison: Comparison, column: u64, number: usize, last: usize, b: usize) -> u64
+    requires { ⌜ last ≤ 1 ⌝ }
+    ensures { λ r. ⌜ Counted (comparisonOf comparison) column number last b r ⌝ }
 {
-    u64::count_ones(cycles_from(b, e) & column) as usize
+    match comparison {
+        Comparison::Below => !at_least(column, number, last, b),
+        Comparison::AtMost => !more_than(column, number, last, b),
+        Comparison::Equal => {
+            at_least(column, number, last, b) & !more_than(column, number, last, b)
+        }
+        Comparison::AtLeast => at_least(column, number, last, b),
+        Comparison::Above => more_than(column, number, last, b),
+    }
 }
 
 // The cycles of [b,e] in a column, e itself counted if `last` is 1, compared with a number.
@@ -52,15 +79,7 @@ fn counted(
     requires { ⌜ (b < n) × (n ≤ 64) × (last ≤ 1) ⌝ }
     ensures { λ r. ⌜ r ≡ row n (countedTo (comparisonOf comparison) column number last) b ⌝ }
 {
-    let mut out: u64 = 0;
-    let mut e = b;
-    while e < n {
-        if compare(comparison, count(column, b, e + last), number) {
-            out |= only(e);
-        }
-        e += 1;
-    }
-    out
+    cycles_from(b, n) & passing(comparison, column, number, last, b)
 }
 
 // The cycle `number` after b, or one past all where a row has none so late.

@@ -115,18 +115,14 @@ unfolding countBelow
 count-first zero p = omega arith
 count-first (suc n) p = let h = count-first n p in omega arith
 
--- cycles past the last that passes count for nothing
-pub count-past : (m n : ℕ) (p : ℕ → Bool) → n ≤ m → ((i : ℕ) → n ≤ i → p i ≡ false) → countBelow m p ≡ countBelow n p
+-- with more cycles no fewer pass
+pub count-grows : (m n : ℕ) (p : ℕ → Bool) → n ≤ m → countBelow n p ≤ countBelow m p
 unfolding countBelow
-count-past zero zero p l f = refl
-count-past zero (suc n) p l f = absurd (not-suc-le-zero l)
-count-past (suc m) n p l f =
+count-grows zero n p l = let z : n ≡ 0 = omega arith in rw z (omega arith)
+count-grows (suc m) n p l =
     elim (eq-or-lt-of-le l) [
-      | inl e ↦ ap (λ (k : ℕ). countBelow k p) (sym e)
-      | inr d ↦ (
-          let rest : countBelow m p ≡ countBelow n p = count-past m n p (le-of-suc-le-suc d) f in
-          let none : _≡_ {A = ℕ} (cond (p m) 1 0) 0 = ap (λ (x : Bool). cond x 1 0) (f m (le-of-suc-le-suc d)) in
-          omega arith)
+      | inl e ↦ (let z = ap (λ (k : ℕ). countBelow k p) e in omega arith)
+      | inr d ↦ (let h = count-grows m n p (le-of-suc-le-suc d) in omega arith)
     ]
 
 -- exactly one cycle passes
@@ -137,7 +133,7 @@ pub record One (b e : ℕ) (p : ℕ → Bool) : Type 0 where
   pub ok : p at ≡ true
   pub alone : (i : ℕ) → b ≤ i → i < e → p i ≡ true → i ≡ at
 
-count-none : (n : ℕ) (p : ℕ → Bool) → ((i : ℕ) → i < n → p i ≡ false) → countBelow n p ≡ 0
+pub count-none : (n : ℕ) (p : ℕ → Bool) → ((i : ℕ) → i < n → p i ≡ false) → countBelow n p ≡ 0
 unfolding countBelow
 count-none zero p f = refl
 count-none (suc n) p f = rw (count-none n p (λ i h. f i (omega arith)), f n (omega arith))
