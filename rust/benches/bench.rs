@@ -20,7 +20,7 @@ use fasunqir::Board;
 use std::fmt::Write;
 use std::hint::black_box;
 use std::path::PathBuf;
-use timing::{microseconds, warm_up};
+use timing::{median_and_most, microseconds, warm_up};
 
 struct Row {
     what: String,
@@ -92,6 +92,20 @@ fn write_rows(text: &mut String, title: &str, rows: &[Row]) {
             "| {what} | {library:.1} | {plain:.1} | {brute_time} | {ratio:.2} | {brute_ratio} |"
         )
         .unwrap();
+    }
+    writeln!(text).unwrap();
+}
+
+/// The median and the worst of the drawn sheets.
+fn drawn(text: &mut String) {
+    let times: Vec<[f64; 2]> =
+        cases::drawn().into_iter().map(check).map(|row| [row.library, row.plain]).collect();
+    writeln!(text, "| check, forty drawn sheets, 3 names, 64 cycles | library µs | plain µs | library : plain |")
+        .unwrap();
+    writeln!(text, "|---|---:|---:|---:|").unwrap();
+    for (what, [library, plain]) in ["median", "worst"].into_iter().zip(median_and_most(&times)) {
+        let ratio = library / plain;
+        writeln!(text, "| {what} | {library:.1} | {plain:.1} | {ratio:.2} |").unwrap();
     }
     writeln!(text).unwrap();
 }
@@ -271,6 +285,7 @@ fn main() {
     let mut text = String::new();
     write_rows(&mut text, "check", &checks);
     write_rows(&mut text, "table", &tables);
+    drawn(&mut text);
     advice(&mut text);
     boards(&mut text);
     translations(&mut text);

@@ -14,7 +14,7 @@ mod timing;
 use cases::{places, Case};
 use fasunqir::bytes::{ROWS, WORDS};
 use std::hint::black_box;
-use timing::{microseconds, warm_up};
+use timing::{median_and_most, microseconds, warm_up};
 
 /// A version's check and table, as the archive exports them.
 struct Version {
@@ -119,18 +119,34 @@ fn least(runs: usize, mut run: impl FnMut() -> [f64; 2]) -> [f64; 2] {
     (0..runs).map(|_| run()).reduce(|[a, b], [c, d]| [f64::min(a, c), f64::min(b, d)]).unwrap()
 }
 
+/// The times of a check, and whether the answers are the same.
+fn check(versions: &[Version; 2], runs: usize, case: &Case) -> ([f64; 2], bool) {
+    let sheet = case.sheet.bytes();
+    let mut lent = [(); 2].map(|()| (vec![0; WORDS], 0));
+    let [other, library] = &mut lent;
+    let call = |k: usize, (words, answer): &mut (Vec<u64>, u64)| {
+        *answer = black_box(versions[k].check(&sheet, &case.trace, words));
+    };
+    let times = least(runs, || microseconds([&mut || call(0, other), &mut || call(1, library)]));
+    (times, lent[0].1 == lent[1].1)
+}
+
 fn checks(versions: &[Version; 2], runs: usize, cases: Vec<Case>) {
     title("check");
-    for Case { what, sheet, trace, .. } in cases {
-        let sheet = sheet.bytes();
-        let mut lent = [(); 2].map(|()| (vec![0; WORDS], 0));
-        let [other, library] = &mut lent;
-        let call = |k: usize, (words, answer): &mut (Vec<u64>, u64)| {
-            *answer = black_box(versions[k].check(&sheet, &trace, words));
-        };
-        let times =
-            least(runs, || microseconds([&mut || call(0, other), &mut || call(1, library)]));
-        line(&what, times, lent[0].1 == lent[1].1);
+    for case in cases {
+        let (times, same) = check(versions, runs, &case);
+        line(&case.what, times, same);
+    }
+}
+
+fn drawn(versions: &[Version; 2]) {
+    title("check, forty drawn sheets, 3 names, 64 cycles");
+    let found: Vec<([f64; 2], bool)> =
+        cases::drawn().iter().map(|case| check(versions, 1, case)).collect();
+    let same = found.iter().all(|(_, same)| *same);
+    let times: Vec<[f64; 2]> = found.iter().map(|(times, _)| *times).collect();
+    for (what, times) in ["median", "worst"].into_iter().zip(median_and_most(&times)) {
+        line(what, times, same);
     }
 }
 
@@ -162,4 +178,5 @@ fn main() {
     println!("\nThe sheets of ./bench:");
     tables(&versions, 1, cases::tables());
     checks(&versions, 1, cases::checks());
+    drawn(&versions);
 }

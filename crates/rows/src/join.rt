@@ -1,10 +1,8 @@
 // Rows joined from rows: chop and star.
 ghost use mathlib.Core.Path.{_≡_};
-ghost use Prim.Native.Nat.{_<_, _≤_};
+ghost use Prim.Native.Nat.{_≤_};
 ghost use lib.ListN.{length, getD};
-ghost use Rattle.rows.specs.Row.{joined, starred};
-use crate::mask::below;
-use crate::mask::only;
+ghost use Rattle.rows.specs.Row.{joined};
 
 // All rows of `second` that start where an interval of `row` ends: the row of a chop.
 pub fn join(row: u64, second: &[u64]) -> u64
@@ -33,13 +31,4 @@ pub fn join_more(row: u64, had: u64, kept: u64, second: &[u64]) -> u64
         out = kept;
     }
     out | join(left, second)
-}
-
-// Row b of a star, from row b of its formula and the later rows of the star in `stars`.
-pub fn star_row(links: u64, stars: &[u64], b: usize) -> u64
-    requires { ⌜ (b < 64) × (64 ≤ length (now stars)) ⌝ }
-    ensures { λ r. ⌜ r ≡ starred links (λ i. getD (now (stars .entry)) i 0) b ⌝ }
-{
-    let later = links & !below(b + 1);
-    only(b) | join(later, stars)
 }

@@ -1,18 +1,20 @@
 -- Laws of fills: the words of one node, of the nodes passed so far, and of the nodes that a moved name does not reach.
-use Prim.Native.Nat.{ℕ, _+_, _-_, _*_, _≤_, _<_}
+use Prim.Native.Nat.{ℕ, _+_, _-_, _*_, _^_, _≤_, _<_}
 use mathlib.Core.Bool.{true}
 use mathlib.Core.List.{List}
 use mathlib.Core.Logic.{inl, inr}
 use mathlib.Core.Path.{_≡_, refl, sym, _∙_, ap, subst}
 use native.Mathlib.Omega.{arith}
-use borrow.Author.Tests.{eqb-true, eqb-false}
-use lib.Dec.{eqb}
+use borrow.Author.Tests.{leb-true, eqb-true, eqb-false}
+use lib.Bits.{bitAnd}
+use lib.Dec.{leb, ltb, eqb}
 use lib.ListN.{length, set}
 use lib.Seq.{getD-set-same, getD-set-other}
-use Rattle.semantics.specs.Proposition.{Proposition, Trace, Marks, holdsAt}
+use Rattle.semantics.specs.Proposition.{Proposition, Trace, Marks, bit, holdsAt}
 use Rattle.semantics.specs.Formula.{Formula, holds}
-use Rattle.semantics.proofs.Tests.{test}
+use Rattle.semantics.proofs.Tests.{test, and-right}
 use Rattle.rows.specs.Row.{word, row, joined}
+use Rattle.rows.proofs.Masks.{cut-bit}
 use Rattle.stored.specs.declared.Node.{Node}
 use Rattle.traces.specs.Columns.{IsColumns, traceOf, marksOf}
 use Rattle.stored.specs.Node.{requirementSorts, sortOf, nodeAt}
@@ -23,7 +25,7 @@ use Rattle.stored.proofs.Tree.{operands, proposition-law, formula-law}
 use Rattle.tables.specs.Table.{rowAt, Table, Tables}
 use Rattle.tables.specs.Ready.{Given, Ready, Before, Filled, Kept, apart}
 use Rattle.tables.specs.Step.{columnOf, firstColumn, secondColumn, rowOf, Empty, Cleared}
-use Rattle.tables.proofs.Rows.{joined-ext}
+use Rattle.tables.proofs.Rows.{joined-chosen, joined-ext}
 use Rattle.tables.proofs.Columns.{tells}
 use Rattle.tables.proofs.Nodes.{operands-at, usable}
 use Rattle.tables.proofs.Meaning.{Column, Columns, column-is, Rows, Lines, line-is}
@@ -62,6 +64,16 @@ empty-set i b v words p l t =
 pub joined-other : (words : List ℕ) (i b v k ends : ℕ) → b < 64 → (k ≡ i → ⊥) → joined ends (rowAt words k) ≡ joined ends (rowAt (set words (64 * i + b) v) k)
 joined-other words i b v k ends l ne =
     joined-ext ends (rowAt words k) (rowAt (set words (64 * i + b) v) k) (λ c m. sym (row-other words i b v k c l m (λ y _. ne y)))
+
+-- what is joined from a node's own rows after b stays, where row b is stored
+pub joined-own : (words : List ℕ) (i b v links later : ℕ) → b < 64 → later ≡ bitAnd links (2 ^ 64 - 1 - word 64 (λ e. ltb e (b + 1)))
+    → joined later (rowAt words i) ≡ joined later (rowAt (set words (64 * i + b) v) i)
+joined-own words i b v links later l e =
+    joined-chosen later (rowAt words i) (rowAt (set words (64 * i + b) v) i)
+    (λ c m s.
+    let there = sym (cut-bit 64 links (b + 1) c m) ∙ ap (λ (x : ℕ). bit x c) (sym e) ∙ s in
+    let past = leb-true (b + 1) c (and-right (bit links c) (leb (b + 1) c) there) in
+    sym (row-other words i b v i c l m (λ _ y. absurd (omega arith))))
 
 -- node i has its rows from b on, and the words of the other nodes are as they were
 pub record Partly (x : ℕ → Node) (σ : Trace) (μ : Marks) (n i b : ℕ) (old new : List ℕ) : Type 0 where

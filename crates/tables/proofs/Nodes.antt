@@ -14,7 +14,7 @@ use Rattle.stored.proofs.Tree.{operands}
 use Rattle.stored.proofs.Reach.{NodesKept}
 use Rattle.tables.specs.Ready.{Given}
 use Rattle.tables.specs.Step.{Usable, isPair}
-use Rattle.tables.proofs.Uses.{Ops, proposition-ops, formula-ops, joins-formula, pair-of, pair-formula, pair-right}
+use Rattle.tables.proofs.Uses.{Ops, proposition-ops, formula-ops, joins-formula, pair-of, pair-formula, pair-right, star-formula}
 
 record FieldKept (s m what v : ℕ) : Type 0 where
   pub signal : what ≡ 1 → v < s
@@ -65,6 +65,12 @@ pub record Chop (x : ℕ → Node) (i : ℕ) (r : Node) : Type 0 where
   pub formula : sortOf requirementSorts (x i .op) ≡ 2
   pub first : r .a < i
   pub second : r .b < i
+
+-- a star after i nodes: its operand is among them
+pub record Star (x : ℕ → Node) (i : ℕ) (r : Node) : Type 0 where
+  pub op : r .op ≡ 23
+  pub formula : sortOf requirementSorts (x i .op) ≡ 2
+  pub first : r .a < i
 
 module _ {nodes : List ℕ} {count n : ℕ} {columns words : List ℕ} (g : Given nodes count n columns words) where
   pub nodes-kept : NodesKept (g .signals) (g .names) count (nodeAt nodes)
@@ -122,3 +128,10 @@ module _ {nodes : List ℕ} {count n : ℕ} {columns words : List ℕ} (g : Give
         first = u .a-formula (joins-formula (r .op) (omega arith) (omega arith));
         second = u .b-formula (pair-right (r .op) pair);
       }
+
+  -- a star that was read
+  pub star-read : (i : ℕ) (r : Node) → i < count → r ≡ nodeAt nodes i → nodeAt nodes i .op ≡ 23 → Star (nodeAt nodes) i r
+  star-read i r h e o =
+      let at : r .op ≡ 23 = ap (λ (y : Node). y .op) e ∙ o in
+      let u = subst (λ (y : Node). Usable y i) (sym e) (usable i h) in
+      record { op = at; formula = star-formula _ o; first = u .a-formula (joins-formula (r .op) (omega arith) (omega arith)) }

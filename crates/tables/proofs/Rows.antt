@@ -1,37 +1,31 @@
 -- Laws of rows in the words.
 use Prim.Native.Nat.{ℕ, _+_, _-_, _*_, _<_}
-use mathlib.Core.Bool.{Bool, _&&_, _||_}
+use mathlib.Core.Bool.{true, _&&_}
 use mathlib.Core.List.{List}
 use mathlib.Core.Path.{_≡_, sym, _∙_, ap}
 use native.Mathlib.Omega.{arith}
-use lib.Dec.{ltb, eqb}
 use lib.ListN.{getD, take, drop}
 use lib.Seq.{getD-take, getD-drop}
 use Rattle.semantics.specs.Cycles.{someBelow}
 use Rattle.semantics.specs.Proposition.{bit}
-use Rattle.semantics.proofs.Cycles.{below-cong}
-use Rattle.rows.specs.Row.{joined, starred}
+use Rattle.semantics.proofs.Cycles.{below-cong, and-cong}
+use Rattle.rows.specs.Row.{joined}
 use Rattle.rows.proofs.Rows.{word-ext}
 use Rattle.stored.specs.declared.Node.{Node}
 use Rattle.stored.specs.Tree.{formulaOp}
 use Rattle.tables.specs.Table.{rowAt}
 use Rattle.tables.specs.Step.{rowOf}
 
--- joins go by the first 64 words alone
-pub joined-ext : (set : ℕ) (v w : ℕ → ℕ) → ((i : ℕ) → i < 64 → v i ≡ w i) → joined set v ≡ joined set w
+-- joins go by the words of the set alone
+pub joined-chosen : (set : ℕ) (v w : ℕ → ℕ) → ((i : ℕ) → i < 64 → bit set i ≡ true → v i ≡ w i) → joined set v ≡ joined set w
 unfolding joined
-joined-ext set v w f =
+joined-chosen set v w f =
     word-ext 64 (λ e. someBelow 64 (λ i. bit set i && bit (v i) e)) (λ e. someBelow 64 (λ i. bit set i && bit (w i) e))
     (λ e l. below-cong 64 (λ i. bit set i && bit (v i) e) (λ i. bit set i && bit (w i) e)
-    (λ i m. ap (λ (z : ℕ). bit set i && bit z e) (f i m)))
+    (λ i m. and-cong (bit set i) (bit (v i) e) (bit (w i) e) (λ s. ap (λ (z : ℕ). bit z e) (f i m s))))
 
-pub starred-ext : (links : ℕ) (v w : ℕ → ℕ) (b : ℕ) → ((i : ℕ) → i < 64 → v i ≡ w i) → starred links v b ≡ starred links w b
-unfolding starred
-starred-ext links v w b f =
-    word-ext 64 (λ e. eqb b e || someBelow 64 (λ i. (ltb b i && bit links i) && bit (v i) e)) (λ e. eqb b e || someBelow 64 (λ i. (ltb b i && bit links i) && bit (w i) e))
-    (λ e l. ap (λ (c : Bool). eqb b e || c)
-    (below-cong 64 (λ i. (ltb b i && bit links i) && bit (v i) e) (λ i. (ltb b i && bit links i) && bit (w i) e)
-    (λ i m. ap (λ (z : ℕ). (ltb b i && bit links i) && bit z e) (f i m))))
+pub joined-ext : (set : ℕ) (v w : ℕ → ℕ) → ((i : ℕ) → i < 64 → v i ≡ w i) → joined set v ≡ joined set w
+joined-ext set v w f = joined-chosen set v w (λ i m s. f i m)
 
 -- the rows of node i as a part of the words
 pub part-row : (words : List ℕ) (i from to : ℕ) → from ≡ 64 * i → to ≡ from + 64 → (b : ℕ) → b < 64 → getD (take (to - from) (drop from words)) b 0 ≡ rowAt words i b

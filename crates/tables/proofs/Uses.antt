@@ -111,3 +111,16 @@ pair-first k x columns words = pair-told (λ k. 0 ≡ firstColumn k x columns wo
 pub pair-second : (k : ℕ) (x : Node) (columns : List ℕ) → isPair k ≡ true → 0 ≡ secondColumn k x columns
 unfolding secondColumn qUse
 pair-second k x columns = pair-told (λ k. 0 ≡ secondColumn k x columns) refl refl refl k
+
+-- star: over the rows of one formula and its own, and over no columns
+pub star-formula : (k : ℕ) → k ≡ 23 → sortOf requirementSorts k ≡ 2
+unfolding sortOf
+star-formula k e = rw e
+
+pub star-first : (k : ℕ) (x : Node) (columns words : List ℕ) → k ≡ 23 → 0 ≡ firstColumn k x columns words
+unfolding firstColumn aUse qUse
+star-first k x columns words e = rw e
+
+pub star-second : (k : ℕ) (x : Node) (columns : List ℕ) → k ≡ 23 → 0 ≡ secondColumn k x columns
+unfolding secondColumn qUse
+star-second k x columns e = rw e

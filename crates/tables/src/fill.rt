@@ -16,11 +16,13 @@ use crate::line::plain_row;
 use crate::words::clear_rows;
 use crate::words::joined_at;
 use crate::words::row_at;
+use rows::mask::below;
 use rows::mask::only;
 use stored::layout::MOST_NODES;
 use stored::masks::name_mask;
 use stored::nodes::node_at;
 use stored::ops::CHOP;
+use stored::ops::STAR;
 use traces::trace::FIRST_NAME;
 
 // The column of proposition node i, from those of earlier nodes.
@@ -123,12 +125,34 @@ fn put_drawing(nodes: &[u8], count: usize, n: usize, columns: &[u64], i: usize, 
     }
 }
 
-// The same for a bracket, a star or a count.
-fn put_rows(nodes: &[u8], count: usize, n: usize, columns: &[u64], i: usize, words: &mut [u64])
+// The same for a star: row b has b itself and the star's own rows that start where an interval of its formula from b ends, later than b.
+// As in a chop, what the links of the row after it joined is kept.
+fn put_star(nodes: &[u8], count: usize, n: usize, columns: &[u64], i: usize, words: &mut [u64])
+    requires { ⌜ Given (now nodes) count n (now columns) (now words) ⌝ }
+    requires { ⌜ Before (nodeAt (now nodes)) (traceOf n (now columns)) (marksOf (now columns)) n (now words) i ⌝ }
+    requires { ⌜ (i < count) × (nodeAt (now nodes) i .op ≡ 23) ⌝ }
+    ensures { λ r. ⌜ Filled (nodeAt (now (nodes .entry))) (traceOf n (now (columns .entry))) (marksOf (now (columns .entry))) n i (now (words .entry)) (now (words .exit)) ⌝ }
+{
+    let x = node_at(nodes, i);
+    let first = x.a;
+    let mut had: u64 = 0;
+    let mut kept: u64 = 0;
+    let mut b = n;
+    while 0 < b {
+        b -= 1;
+        let later = row_at(words, first, b) & !below(b + 1);
+        kept = joined_at(later, had, kept, words, i);
+        had = later;
+        words[64 * i + b] = only(b) | kept;
+    }
+}
+
+// The same for a bracket or a count.
+fn put_plain(nodes: &[u8], count: usize, n: usize, columns: &[u64], i: usize, words: &mut [u64])
     requires { ⌜ Given (now nodes) count n (now columns) (now words) ⌝ }
     requires { ⌜ Before (nodeAt (now nodes)) (traceOf n (now columns)) (marksOf (now columns)) n (now words) i ⌝ }
     requires { ⌜ (i < count) × (sortOf requirementSorts (nodeAt (now nodes) i .op) ≡ formula) ⌝ }
-    requires { ⌜ (nodeAt (now nodes) i .op < 27) × (isPair (nodeAt (now nodes) i .op) ≡ false) ⌝ }
+    requires { ⌜ (nodeAt (now nodes) i .op < 27) × (isPair (nodeAt (now nodes) i .op) ≡ false) × (nodeAt (now nodes) i .op ≡ 23 → ⊥) ⌝ }
     ensures { λ r. ⌜ Filled (nodeAt (now (nodes .entry))) (traceOf n (now (columns .entry))) (marksOf (now (columns .entry))) n i (now (words .entry)) (now (words .exit)) ⌝ }
 {
     let x = node_at(nodes, i);
@@ -139,6 +163,23 @@ fn put_rows(nodes: &[u8], count: usize, n: usize, columns: &[u64], i: usize, wor
         b -= 1;
         let row = plain_row(x, n, first, second, words, i, b);
         words[64 * i + b] = row;
+    }
+}
+
+// The same for a bracket, a star or a count.
+fn put_rows(nodes: &[u8], count: usize, n: usize, columns: &[u64], i: usize, words: &mut [u64])
+    requires { ⌜ Given (now nodes) count n (now columns) (now words) ⌝ }
+    requires { ⌜ Before (nodeAt (now nodes)) (traceOf n (now columns)) (marksOf (now columns)) n (now words) i ⌝ }
+    requires { ⌜ (i < count) × (sortOf requirementSorts (nodeAt (now nodes) i .op) ≡ formula) ⌝ }
+    requires { ⌜ (nodeAt (now nodes) i .op < 27) × (isPair (nodeAt (now nodes) i .op) ≡ false) ⌝ }
+    ensures { λ r. ⌜ Filled (nodeAt (now (nodes .entry))) (traceOf n (now (columns .entry))) (marksOf (now (columns .entry))) n i (now (words .entry)) (now (words .exit)) ⌝ }
+{
+    let x = node_at(nodes, i);
+    let op = x.op;
+    if op == STAR {
+        put_star(nodes, count, n, columns, i, words);
+    } else {
+        put_plain(nodes, count, n, columns, i, words);
     }
 }
 

@@ -7,7 +7,6 @@ ghost use Rattle.rows.specs.Symbols as symbols;
 ghost use Rattle.stored.specs.Tree.{comparisonOf, symbolOf, formulaOp};
 ghost use Rattle.tables.specs.Step.{Usable, isPair, rowOf};
 use crate::words::row_at;
-use crate::words::starred_at;
 use rows::count;
 use rows::count::Comparison;
 use rows::gap::gap;
@@ -64,24 +63,6 @@ fn shape_row(x: Node, n: usize, first: u64, second: u64, words: &[u64], own: usi
         18 => shape::whole(first, b, n),
         _ => shape::unit(first, b, n),
     }
-}
-
-// Row b of a star.
-fn starred_row(
-    x: Node,
-    n: usize,
-    first: u64,
-    second: u64,
-    words: &[u64],
-    own: usize,
-    b: usize,
-) -> u64
-    requires { ⌜ Usable x own ⌝ }
-    requires { ⌜ (x .op ≡ 23) × (b < 64) × (64 * own + 64 ≤ length (now words)) ⌝ }
-    ensures { λ r. ⌜ r ≡ rowOf (formulaOp (x .op)) x n first second (now (words .entry)) own b ⌝ }
-{
-    let links = row_at(words, x.a, b);
-    starred_at(links, words, own, b)
 }
 
 // slen, scount and sdur.
@@ -147,7 +128,7 @@ pub fn drawing_row(
     }
 }
 
-// Row b of a bracket, a star or a count.
+// Row b of a bracket or a count.
 pub fn plain_row(
     x: Node,
     n: usize,
@@ -158,15 +139,13 @@ pub fn plain_row(
     b: usize,
 ) -> u64
     requires { ⌜ Usable x own ⌝ }
-    requires { ⌜ (16 ≤ x .op) × (x .op < 27) × (isPair (x .op) ≡ false) × (b < n) × (n ≤ 64) × (64 * own + 64 ≤ length (now words)) ⌝ }
+    requires { ⌜ (16 ≤ x .op) × (x .op < 27) × (isPair (x .op) ≡ false) × (x .op ≡ 23 → ⊥) × (b < n) × (n ≤ 64) ⌝ }
     ensures { λ r. ⌜ r ≡ rowOf (formulaOp (x .op)) x n first second (now (words .entry)) own b ⌝ }
 {
     let op = x.op;
     if op < 20 {
-        return shape_row(x, n, first, second, words, own, b);
+        shape_row(x, n, first, second, words, own, b)
+    } else {
+        count_row(x, n, first, second, words, own, b)
     }
-    if op < 24 {
-        return starred_row(x, n, first, second, words, own, b);
-    }
-    count_row(x, n, first, second, words, own, b)
 }

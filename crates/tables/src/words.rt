@@ -2,11 +2,10 @@
 ghost use mathlib.Core.Path.{_≡_};
 ghost use Prim.Native.Nat.{_+_, _*_, _≤_, _<_};
 ghost use lib.ListN.{length, replicate};
-ghost use Rattle.rows.specs.Row.{joined, starred};
+ghost use Rattle.rows.specs.Row.{joined};
 ghost use Rattle.tables.specs.Table.{rowAt};
 ghost use Rattle.tables.specs.Step.{Cleared};
 use rows::join::join_more;
-use rows::join::star_row;
 
 // Row b of node i.
 pub fn row_at(words: &[u64], i: usize, b: usize) -> u64
@@ -24,16 +23,6 @@ pub fn joined_at(row: u64, had: u64, kept: u64, words: &[u64], i: usize) -> u64
     let from = 64 * i;
     let to = from + 64;
     join_more(row, had, kept, &words[from..to])
-}
-
-// Row b of the star at node i, from row b of its formula and its own later rows.
-pub fn starred_at(links: u64, words: &[u64], i: usize, b: usize) -> u64
-    requires { ⌜ (b < 64) × (64 * i + 64 ≤ length (now words)) ⌝ }
-    ensures { λ r. ⌜ r ≡ starred links (rowAt (now (words .entry)) i) b ⌝ }
-{
-    let from = 64 * i;
-    let to = from + 64;
-    star_row(links, &words[from..to], b)
 }
 
 // The rows of node i below n, without any end from now on.

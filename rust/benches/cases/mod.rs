@@ -149,9 +149,51 @@ fn windows_in_a_row(cycles: usize) -> Sheet {
     marks_in_a_row(within, |s, row, moved| s.chop(moved, row), Compare::Less)
 }
 
-/// The dearest sheet that was found: a star of a star and so on. A star joins all its links anew.
+/// A star of a star and so on.
 fn stars_in_a_row() -> Sheet {
     marks_in_a_row(always, |s, row, _| s.star(row), Compare::Less)
+}
+
+/// 55 counts of the name that is moved most, three names in one anti, which no interval can break. The
+/// clause reaches the last count alone.
+fn counts() -> Sheet {
+    let mut sheet = Sheet::new(1, 3);
+    let s = &mut sheet;
+    let name = s.name(2);
+    let counts = [(); 55].map(|()| s.sdur(name, Compare::AtMost, 1));
+    never(s, counts[54]);
+    sheet
+}
+
+/// The same with 28 counts, joined by 27 ands: the clause reaches them all.
+fn counts_reached() -> Sheet {
+    let mut sheet = Sheet::new(1, 3);
+    let s = &mut sheet;
+    let name = s.name(2);
+    let counts = [(); 28].map(|()| s.sdur(name, Compare::AtMost, 1));
+    let all = counts.into_iter().reduce(|f, g| s.both(f, g)).unwrap();
+    never(s, all);
+    sheet
+}
+
+/// An anti of an interval shorter than any, so that every placement of three names is tried.
+fn never(s: &mut Sheet, f: Node) {
+    let none = s.slen(Compare::Less, 0);
+    let root = s.both(f, none);
+    s.anti(Commitment, Part(root, 0b111));
+}
+
+/// Forty sheets of one to three clauses drawn with three names, on 64 cycles.
+pub fn drawn() -> Vec<Case> {
+    let mut random = generate::Random::new(40);
+    let drawn = |random: &mut generate::Random| {
+        let clauses = random.between(1, 3);
+        let shape = generate::Shape { signals: 3, names: 3, nodes: 64, clauses, numbers: 12 };
+        let sheet = generate::drawn(random, shape);
+        let trace = generate::trace(random, 3, 64).bytes();
+        Case { what: String::new(), sheet, trace, cycles: 64 }
+    };
+    (0..40).map(|_| drawn(&mut random)).collect()
 }
 
 /// A trace on which the sheet holds, if one turns up, so that every placement is looked at.
@@ -200,17 +242,22 @@ pub fn checks() -> Vec<Case> {
     }
     let what = "64 nodes, 59 chops, 8 clauses";
     cases.extend(CYCLES.map(|cycles| case(what, chops(), cycles)));
+    let steady = |what: &str, sheet: Sheet, cycles: usize| {
+        let trace = generate::trace(&mut generate::Random::new(1), 1, cycles).bytes();
+        case_on(what, sheet, cycles, trace)
+    };
     let anti = |what: &str, sheet: fn(usize) -> Sheet| {
         let what = format!("62 nodes, 3 names in an anti {what}");
-        CYCLES.map(|cycles| {
-            let trace = generate::trace(&mut generate::Random::new(1), 1, cycles).bytes();
-            case_on(&what, sheet(cycles), cycles, trace)
-        })
+        CYCLES.map(|cycles| steady(&what, sheet(cycles), cycles))
     };
     cases.extend(anti("broken at once", |_| stretches_in_a_row(Compare::AtLeast)));
     cases.extend(anti("that holds", |_| stretches_in_a_row(Compare::Less)));
     cases.extend(anti("of windows", windows_in_a_row));
     cases.extend(anti("of stars", |_| stars_in_a_row()));
+    let what = "55 counts, one of them in an anti with 3 names";
+    cases.extend([16, 32].map(|cycles| steady(what, counts(), cycles)));
+    let what = "28 counts, all of them in an anti with 3 names";
+    cases.extend([16, 32].map(|cycles| steady(what, counts_reached(), cycles)));
     cases
 }
 

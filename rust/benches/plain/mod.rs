@@ -157,26 +157,10 @@ impl Checker {
             }
             19 => unit(rows, before[a][0], cycles),
             20 => {
-                // What the ends of the last row that has any joined is kept for one that has them all.
-                let (mut had, mut kept) = (0, 0);
+                let mut joined = Joined::default();
                 for t in (0..cycles).rev() {
                     let ends = before[a][t];
-                    if ends == 0 {
-                        rows[t] = 0;
-                        continue;
-                    }
-                    let mut left = ends;
-                    if had & ends == had {
-                        left ^= had;
-                    } else {
-                        kept = 0;
-                    }
-                    while left != 0 {
-                        kept |= before[b][left.trailing_zeros() as usize];
-                        left &= left - 1;
-                    }
-                    had = ends;
-                    rows[t] = kept;
+                    rows[t] = if ends == 0 { 0 } else { joined.join(ends, &before[b]) };
                 }
             }
             21 => {
@@ -190,29 +174,19 @@ impl Checker {
                 }
             }
             23 => {
+                let mut joined = Joined::default();
                 for t in (0..cycles).rev() {
-                    let mut links = before[a][t] & from_bit(t + 1);
-                    let mut row = 1 << t;
-                    while links != 0 {
-                        row |= rows[links.trailing_zeros() as usize];
-                        links &= links - 1;
-                    }
-                    rows[t] = row;
+                    rows[t] = 1 << t | joined.join(before[a][t] & from_bit(t + 1), rows);
                 }
             }
-            24 => measured(rows, cycles, q, b, |x, y| y - x),
-            25 => {
-                let column = before[a][0];
-                measured(rows, cycles, q, b, |x, y| {
-                    (column & from_bit(x) & below_bit(y + 1)).count_ones() as usize
-                })
+            24 => {
+                for (t, row) in rows[..cycles].iter_mut().enumerate() {
+                    let ends = passing(q, || from_bit(t + b), || from_bit(t + b + 1));
+                    *row = from_bit(t) & trace & ends;
+                }
             }
-            26 => {
-                let column = before[a][0];
-                measured(rows, cycles, q, b, |x, y| {
-                    (column & from_bit(x) & below_bit(y)).count_ones() as usize
-                })
-            }
+            25 => counted(rows, before[a][0], 1, q, b, cycles),
+            26 => counted(rows, before[a][0], 0, q, b, cycles),
             27 => {
                 let high = self.signals[a];
                 let low = !high & trace;
@@ -445,26 +419,57 @@ fn unit(rows: &mut Rows, column: u64, cycles: usize) {
     }
 }
 
-fn measured(
-    rows: &mut Rows,
-    cycles: usize,
-    q: u8,
-    with: usize,
-    measure: impl Fn(usize, usize) -> usize,
-) {
-    for x in 0..cycles {
-        let mut row = 0;
-        for y in x..cycles {
-            let found = measure(x, y);
-            let passes = match q {
-                0 => found < with,
-                1 => found <= with,
-                2 => found == with,
-                3 => found >= with,
-                _ => found > with,
-            };
-            row |= (passes as u64) << y;
+/// What the rows that start at the ends of one row join. It is kept for the next row, which joins only what
+/// it has besides where it has all these ends.
+#[derive(Default)]
+struct Joined {
+    had: u64,
+    kept: u64,
+}
+
+impl Joined {
+    fn join(&mut self, ends: u64, rows: &Rows) -> u64 {
+        let mut left = ends;
+        if self.had & ends == self.had {
+            left ^= self.had;
+        } else {
+            self.kept = 0;
         }
-        rows[x] = row;
+        while left != 0 {
+            self.kept |= rows[left.trailing_zeros() as usize];
+            left &= left - 1;
+        }
+        self.had = ends;
+        self.kept
+    }
+}
+
+/// The ends that a comparison takes, from those where the number is reached and those where it is passed.
+fn passing(q: u8, reached: impl Fn() -> u64, passed: impl Fn() -> u64) -> u64 {
+    match q {
+        0 => !reached(),
+        1 => !passed(),
+        2 => reached() & !passed(),
+        3 => reached(),
+        _ => passed(),
+    }
+}
+
+/// Rows of a count, the last cycle counted if `last` is 1.
+fn counted(rows: &mut Rows, column: u64, last: usize, q: u8, number: usize, cycles: usize) {
+    for (t, row) in rows[..cycles].iter_mut().enumerate() {
+        let more_than = |number: usize| {
+            let mut left = column & from_bit(t);
+            if left.count_ones() as usize <= number {
+                return 0;
+            }
+            for _ in 0..number {
+                left &= left - 1;
+            }
+            from_bit(left.trailing_zeros() as usize + 1 - last)
+        };
+        let at_least = || if number == 0 { u64::MAX } else { more_than(number - 1) };
+        let ends = passing(q, at_least, || more_than(number));
+        *row = from_bit(t) & below_bit(cycles) & ends;
     }
 }

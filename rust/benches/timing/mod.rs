@@ -32,6 +32,16 @@ pub fn microseconds<const N: usize>(mut calls: [&mut dyn FnMut(); N]) -> [f64; N
     least
 }
 
+/// The median and the most of the times in each column.
+pub fn median_and_most<const N: usize>(times: &[[f64; N]]) -> [[f64; N]; 2] {
+    let sorted: [Vec<f64>; N] = std::array::from_fn(|k| {
+        let mut column: Vec<f64> = times.iter().map(|row| row[k]).collect();
+        column.sort_by(f64::total_cmp);
+        column
+    });
+    [times.len() / 2, times.len() - 1].map(|at| std::array::from_fn(|k| sorted[k][at]))
+}
+
 /// Keeps the processor busy for a second, so that the first times are taken at the speed of the rest.
 pub fn warm_up() {
     let start = Instant::now();
