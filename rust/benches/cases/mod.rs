@@ -149,6 +149,16 @@ fn windows_in_a_row(cycles: usize) -> Sheet {
     marks_in_a_row(within, |s, row, moved| s.chop(moved, row), Compare::Less)
 }
 
+/// The dearest sheet that was found: intervals of every length but 1, joined from the right. Each row of a
+/// chop's first operand has nearly every end, and lacks one of the row after it, so all are joined anew.
+fn lengths_in_a_row() -> Sheet {
+    let but_one = |s: &mut Sheet| {
+        let (less, more) = (s.slen(Compare::Less, 1), s.slen(Compare::More, 1));
+        s.either(less, more)
+    };
+    marks_in_a_row(but_one, |s, row, moved| s.chop(moved, row), Compare::Less)
+}
+
 /// A star of a star and so on.
 fn stars_in_a_row() -> Sheet {
     marks_in_a_row(always, |s, row, _| s.star(row), Compare::Less)
@@ -253,6 +263,7 @@ pub fn checks() -> Vec<Case> {
     cases.extend(anti("broken at once", |_| stretches_in_a_row(Compare::AtLeast)));
     cases.extend(anti("that holds", |_| stretches_in_a_row(Compare::Less)));
     cases.extend(anti("of windows", windows_in_a_row));
+    cases.extend(anti("of lengths but 1", |_| lengths_in_a_row()));
     cases.extend(anti("of stars", |_| stars_in_a_row()));
     let what = "55 counts, one of them in an anti with 3 names";
     cases.extend([16, 32].map(|cycles| steady(what, counts(), cycles)));
