@@ -13,10 +13,9 @@ mod plot;
 mod reference;
 mod timing;
 
-use build::{Sheet, Trace};
-use cases::{chops, places, waveforms, Advised, Case};
+use build::Trace;
+use cases::{places, Advised, Case};
 use fasunqir::bytes::{OUTPUT, ROWS, WORDS};
-use fasunqir::Board;
 use std::fmt::Write;
 use std::hint::black_box;
 use std::path::PathBuf;
@@ -193,15 +192,7 @@ fn translations(text: &mut String) {
         .unwrap();
     writeln!(text, "|---|---:|---:|---:|---:|---:|").unwrap();
     let mut out = vec![0; OUTPUT];
-    let mut full = Sheet::new(1, 3);
-    full.nodes = vec![[29, 0x01, 0, 1, 0, 2]; 64];
-    full.clauses = vec![[5, 1, 0, 63, 0, 62, 0, 61, 7, 7, 7]; 8];
-    let sheets = [
-        ("waveforms, no names", waveforms(0)),
-        ("waveforms, 3 names", waveforms(3)),
-        ("64 nodes, 59 chops", chops()),
-        ("64 gaps, 8 clauses, 3 names", full),
-    ];
+    let sheets = cases::translations();
     for (what, sheet) in sheets {
         let bytes = sheet.bytes();
         let length = fasunqir::bytes::translate_into(&bytes, &mut out).unwrap();

@@ -1,5 +1,5 @@
-//! Check and table of this library and of another version of it, linked into one run by build.rs and
-//! called in turn. Prints Markdown tables.
+//! Check, table and translate of this library and of another version of it, linked into one run by
+//! build.rs and called in turn. Prints Markdown tables.
 
 #[path = "../tests/build/mod.rs"]
 mod build;
@@ -12,11 +12,11 @@ mod reference;
 mod timing;
 
 use cases::{places, Case};
-use fasunqir::bytes::{ROWS, WORDS};
+use fasunqir::bytes::{OUTPUT, ROWS, WORDS};
 use std::hint::black_box;
 use timing::{median_and_most, microseconds, warm_up};
 
-/// A version's check and table, as the archive exports them.
+/// A version's check, table and translate, as the archive exports them.
 struct Version {
     check: unsafe extern "C" fn(*const u8, usize, *const u8, usize, *mut u64, usize) -> u64,
     table: unsafe extern "C" fn(
@@ -33,10 +33,11 @@ struct Version {
         *mut u64,
         usize,
     ) -> u64,
+    translate: unsafe extern "C" fn(*const u8, usize, *mut u8, usize) -> u64,
 }
 
 macro_rules! version {
-    ($check:ident, $table:ident) => {{
+    ($check:ident, $table:ident, $translate:ident) => {{
         extern "C" {
             fn $check(_: *const u8, _: usize, _: *const u8, _: usize, _: *mut u64, _: usize)
                 -> u64;
@@ -54,8 +55,9 @@ macro_rules! version {
                 _: *mut u64,
                 _: usize,
             ) -> u64;
+            fn $translate(_: *const u8, _: usize, _: *mut u8, _: usize) -> u64;
         }
-        Version { check: $check, table: $table }
+        Version { check: $check, table: $table, translate: $translate }
     }};
 }
 
@@ -101,6 +103,11 @@ impl Version {
                 rows.len(),
             )
         }
+    }
+
+    fn translate(&self, sheet: &[u8], out: &mut [u8]) -> u64 {
+        // SAFETY: as above.
+        unsafe { (self.translate)(sheet.as_ptr(), sheet.len(), out.as_mut_ptr(), out.len()) }
     }
 }
 
@@ -166,10 +173,28 @@ fn tables(versions: &[Version; 2], runs: usize, cases: Vec<(Case, usize)>) {
     }
 }
 
+/// Says too how many nodes each version writes.
+fn translations(versions: &[Version; 2]) {
+    title("translate");
+    for (what, sheet) in cases::translations() {
+        let sheet = sheet.bytes();
+        let mut lent = [(); 2].map(|()| vec![0; OUTPUT]);
+        let [other, library] = &mut lent;
+        let call = |k: usize, out: &mut Vec<u8>| {
+            black_box(versions[k].translate(&sheet, out));
+        };
+        let times = least(10, || microseconds([&mut || call(0, other), &mut || call(1, library)]));
+        let [before, after] =
+            lent.each_ref().map(|out| u16::from_be_bytes([out[6], out[7]]) as usize);
+        let same = lent[0][..9 + 6 * before] == lent[1][..9 + 6 * after];
+        line(&format!("{what}: {before} and {after} nodes"), times, same);
+    }
+}
+
 fn main() {
     let versions = [
-        version!(other_fasunqir_check, other_fasunqir_table),
-        version!(fasunqir_check, fasunqir_table),
+        version!(other_fasunqir_check, other_fasunqir_table, other_fasunqir_translate),
+        version!(fasunqir_check, fasunqir_table, fasunqir_translate),
     ];
     warm_up();
     println!("64 nodes, 59 of them chops, on 64 cycles:");
@@ -179,4 +204,5 @@ fn main() {
     tables(&versions, 1, cases::tables());
     checks(&versions, 1, cases::checks());
     drawn(&versions);
+    translations(&versions);
 }

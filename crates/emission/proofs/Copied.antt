@@ -1,35 +1,35 @@
 -- A node copied by the map stands for the node of the sheet.
 use Prim.Native.Nat.{ℕ, suc, _+_, _*_, _/_, _≤_, _<_}
-use mathlib.Core.Bool.{Bool, true, false, not, cond, _&&_, _||_, true≢false, false≢true}
+use mathlib.Core.Bool.{Bool, true, false, cond, _&&_, _||_, true≢false}
 use mathlib.Core.List.{List}
 use mathlib.Core.Logic.{inl, inr}
-use mathlib.Core.Path.{_≡_, refl, sym, _∙_, ap, ap₂, subst}
+use mathlib.Core.Path.{_≡_, refl, sym, _∙_, ap, subst}
 use native.Mathlib.Omega.{arith}
-use borrow.Author.Tests.{leb-true, eqb-true, eqb-false, ne-eqb, eq-eqb, ltb-true}
+use borrow.Author.Tests.{leb-true, eqb-true, eqb-false, ne-eqb, ltb-true}
 use lib.Dec.{leb, ltb, eqb}
 use lib.ListN.{length, getD, set, List·getD-eq-default}
 use lib.Seq.{getD-set-same, getD-set-other}
-use Rattle.semantics.specs.Proposition.{Proposition, negated, bothOf, eitherOf}
-use Rattle.semantics.specs.Formula.{Formula, point, stretch, whole, unit, chop, conjunction, disjunction, star, scount, sdur, negation, forSome, below}
+use Rattle.semantics.specs.Proposition.{Proposition}
+use Rattle.semantics.specs.Formula.{Formula, below}
 use Rattle.semantics.specs.Cycles.{countBelow}
 use Rattle.semantics.specs.Translation.{undrawn}
-use Rattle.semantics.proofs.Tests.{test, and-left, and-right, and-intro}
+use Rattle.semantics.proofs.Tests.{test, and-left, and-right}
 use Rattle.semantics.proofs.Cycles.{count-most}
 use Rattle.stored.specs.declared.Node.{Node}
-use Rattle.stored.specs.Bytes.{word, everyBelow}
-use Rattle.stored.specs.Node.{requirementSorts, emittedSorts, sortOf, qUse, aUse, bUse, nodeAt, fieldRight, fieldsRight, operandRight, operandsRight}
-use Rattle.stored.specs.Tree.{comparisonOf, symbolOf, PropositionOp, FormulaOp, propositionOp, formulaOp, propositionOf, propositionAt, formulaOf, formulaAt}
+use Rattle.stored.specs.Bytes.{everyBelow}
+use Rattle.stored.specs.Node.{requirementSorts, emittedSorts, sortOf, qUse, aUse, bUse, nodeAt, fieldRight, fieldsRight, operandsRight}
+use Rattle.stored.specs.Tree.{symbolOf, FormulaOp, formulaOp, propositionAt, formulaOf, formulaAt}
 use Rattle.stored.specs.Reach.{entryOf}
 use Rattle.stored.specs.Sheet.{headerOf}
-use Rattle.stored.specs.Written.{nodeIn, NodeFits}
+use Rattle.stored.specs.Written.{NodeFits}
 use Rattle.stored.proofs.Rules.{every-number}
-use Rattle.stored.proofs.Tree.{proposition-cases, formula-cases, operands, proposition-law, formula-law}
+use Rattle.stored.proofs.Tree.{formula-cases, operands, proposition-law, formula-law}
 use Rattle.plans.specs.Bound.{mostEmitted, isDrawing, drawingAt}
-use Rattle.plans.specs.Emission.{count, propositionIn, formulaIn, Good, Step, HasProposition, Has, Emits, Ready}
-use Rattle.emission.specs.Copying.{Stands, Mapped, mappedTo, copiedNode, noPropositions, noFormulas, drawingOf, Copied, byOthers, itself, copyCost, copyCosts, NodesIn}
-use Rattle.plans.proofs.Steps.{stay, steps, wider, has-kept, proposition-kept, ready-kept, Addable, Added, put-added}
-use Rattle.plans.proofs.Nodes.{of-formula, of-proposition, new-proposition, new-formula}
+use Rattle.plans.specs.Emission.{count, Step, HasProposition, Has, Emits, Ready}
+use Rattle.emission.specs.Copying.{Stands, Mapped, copiedNode, noPropositions, noFormulas, drawingOf, Copied, byOthers, itself, copyCost, copyCosts, NodesIn}
+use Rattle.plans.proofs.Steps.{stay, steps, wider, has-kept, proposition-kept, ready-kept, Added, put-added}
 use Rattle.plans.proofs.Plans.{Tells}
+use Rattle.emission.proofs.Copies.{Given, some-sort, q-right, a-right, may-copy, is-proposition-copied, is-formula-copied}
 use Rattle.emission.proofs.Drawings.{symbol-told, mark-told, gap-told}
 
 -- ---- sorts
@@ -57,61 +57,13 @@ sort-copied n e some =
     left false true c p q r = absurd (true≢false q)
     left false false c p q r = r
 
--- ---- fields
-data Use (what : ℕ) : Type 0 where
-  asProposition : what ≡ 7 → Use what
-  asFormula : what ≡ 8 → Use what
-  asValue : eqb what 7 ≡ false → eqb what 8 ≡ false → Use what
+-- ---- the operands of a node that rule 7 takes
+undrawnAt : (ℕ → Node) → ℕ → Formula
+undrawnAt x i = undrawn (formulaAt x i)
 
-use-of : (what : ℕ) → Use what
-use-of what =
-    elim (test (eqb what 7)) [
-      | inl e ↦ asProposition (eqb-true what 7 e)
-      | inr e ↦ elim (test (eqb what 8)) [
-        | inl f ↦ asFormula (eqb-true what 8 f)
-        | inr f ↦ asValue e f
-      ]
-    ]
-
--- an operand that the map gives
-record Given (x : ℕ → Node) (y : List ℕ) (map : List ℕ) (what v : ℕ) : Type 0 where
-  proposition : what ≡ 7 → HasProposition y (entryOf map v) (propositionAt x v)
-  formula : what ≡ 8 → Has y (entryOf map v) (undrawn (formulaAt x v))
-
-module _ (x : ℕ → Node) (y map : List ℕ) (s m v : ℕ) where
-  given-fits : (what : ℕ) → Good y → v < 65536 → Given x y map what v → mappedTo map what v < 65536
-  unfolding mappedTo
-  given-fits what good small h =
-      elim (use-of what) [
-        | asProposition e ↦ rw e (omega (arith, h .proposition e .below, good .few-nodes))
-        | asFormula e ↦ rw e (omega (arith, h .formula e .below, good .few-nodes))
-        | asValue e f ↦ rw (e, f) small
-      ]
-
-  given-right : (what : ℕ) → fieldRight s m what v ≡ true → fieldRight s m what (mappedTo map what v) ≡ true
-  unfolding mappedTo fieldRight
-  given-right what r =
-      elim (use-of what) [
-        | asProposition e ↦ rw e
-        | asFormula e ↦ rw e
-        | asValue e f ↦ ap (λ (w : ℕ). fieldRight s m what w) (value e f) ∙ r
-      ]
-    where
-      value : eqb what 7 ≡ false → eqb what 8 ≡ false → mappedTo map what v ≡ v
-      value e f = rw (e, f)
-
-  given-operand : (what : ℕ) → Given x y map what v → operandRight emittedSorts (nodeIn y) (count y) what (mappedTo map what v) ≡ true
-  unfolding mappedTo operandRight
-  given-operand what h =
-      elim (use-of what) [
-        | asProposition e ↦ rw e (of-proposition (h .proposition e))
-        | asFormula e ↦ rw e (of-formula (h .formula e))
-        | asValue e f ↦ rw (e, f)
-      ]
-
--- the operands of a node that rule 7 takes
 module _ {x : ℕ → Node} {i : ℕ} {y map : List ℕ} (kept : operandsRight requirementSorts x i ≡ true) (mapped : Mapped x i y map) where
-  given-a : Given x y map (aUse (x i .op)) (x i .a)
+  given-a : Given y map (propositionAt x) (undrawnAt x) (aUse (x i .op)) (x i .a)
+  unfolding undrawnAt
   given-a =
       let o = operands requirementSorts x i kept in
       record {
@@ -119,7 +71,8 @@ module _ {x : ℕ → Node} {i : ℕ} {y map : List ℕ} (kept : operandsRight r
         formula = λ e. mapped (x i .a) (o .a-formula e .less) .formula (o .a-formula e .sorted);
       }
 
-  given-b : Given x y map (bUse (x i .op)) (x i .b)
+  given-b : Given y map (propositionAt x) (undrawnAt x) (bUse (x i .op)) (x i .b)
+  unfolding undrawnAt
   given-b =
       let o = operands requirementSorts x i kept in
       record {
@@ -127,142 +80,40 @@ module _ {x : ℕ → Node} {i : ℕ} {y map : List ℕ} (kept : operandsRight r
         formula = λ e. mapped (x i .b) (o .b-formula e .less) .formula (o .b-formula e .sorted);
       }
 
--- rule 6, opened
-module _ (s m : ℕ) (n : Node) (right : fieldsRight requirementSorts s m n ≡ true) where
-  some-sort : sortOf requirementSorts (n .op) ≡ 0 → ⊥
-  unfolding fieldsRight
-  some-sort e = go (eqb (sortOf requirementSorts (n .op)) 0) (eq-eqb _ 0 e) (and-left (not (eqb (sortOf requirementSorts (n .op)) 0)) _ right)
-    where
-      go : (b : Bool) → b ≡ true → not b ≡ true → ⊥
-      go true p q = true≢false (sym q)
-      go false p q = false≢true p
-
-  q-right : fieldRight s m (qUse (n .op)) (n .q) ≡ true
-  unfolding fieldsRight
-  q-right = and-left (fieldRight s m (qUse (n .op)) (n .q)) _ (and-right (not (eqb (sortOf requirementSorts (n .op)) 0)) _ right)
-
-  ab-right : (fieldRight s m (aUse (n .op)) (n .a) && (fieldRight s m (bUse (n .op)) (n .b) && (not (eqb (n .op) 29) || leb (n .a) (n .b)))) ≡ true
-  unfolding fieldsRight
-  ab-right = and-right (fieldRight s m (qUse (n .op)) (n .q)) _ (and-right (not (eqb (sortOf requirementSorts (n .op)) 0)) _ right)
-
-  a-right : fieldRight s m (aUse (n .op)) (n .a) ≡ true
-  a-right = and-left (fieldRight s m (aUse (n .op)) (n .a)) _ ab-right
-
-  b-right : fieldRight s m (bUse (n .op)) (n .b) ≡ true
-  b-right = and-left (fieldRight s m (bUse (n .op)) (n .b)) _ (and-right (fieldRight s m (aUse (n .op)) (n .a)) _ ab-right)
-
--- ---- the copy may come next
+-- ---- the copy stands for the node
 no-gap : (n : Node) → isDrawing n ≡ false → n .op ≡ 29 → ⊥
 unfolding isDrawing
 no-gap n e f = true≢false (sym (ap (λ (k : ℕ). leb 27 k && leb k 29) f) ∙ e)
 
-may-copy : {x : ℕ → Node} {y map : List ℕ} (n : Node) → Good y → count y < mostEmitted → NodeFits n → isDrawing n ≡ false
-    → fieldsRight requirementSorts (headerOf y .signals) (headerOf y .names) n ≡ true
-    → Given x y map (aUse (n .op)) (n .a) → Given x y map (bUse (n .op)) (n .b) → Addable y (copiedNode map n)
-unfolding copiedNode fieldsRight
-may-copy {x} {y} {map} n good room fits plain right a b =
-    let s = headerOf y .signals in
-    let m = headerOf y .names in
-    let sort = sort-copied n plain (some-sort s m n right) in
-    record {
-      good = good;
-      room = room;
-      fields =
-          record {
-            op-fits = fits .op-fits;
-            q-fits = fits .q-fits;
-            a-fits = given-fits x y map s m (n .a) (aUse (n .op)) good (fits .a-fits) a;
-            b-fits = given-fits x y map s m (n .b) (bUse (n .op)) good (fits .b-fits) b;
-          };
-      right =
-          and-intro _ _ (ap (λ (z : ℕ). not (eqb z 0)) sort ∙ ap not (ne-eqb _ 0 (some-sort s m n right)))
-          (and-intro _ _ (q-right s m n right)
-          (and-intro _ _ (given-right x y map s m (n .a) (aUse (n .op)) (a-right s m n right))
-          (and-intro _ _ (given-right x y map s m (n .b) (bUse (n .op)) (b-right s m n right))
-          (ap (λ (z : Bool). not z || leb (mappedTo map (aUse (n .op)) (n .a)) (mappedTo map (bUse (n .op)) (n .b))) (ne-eqb (n .op) 29 (no-gap n plain))))));
-      a-right = given-operand x y map s m (n .a) (aUse (n .op)) a;
-      b-right = given-operand x y map s m (n .b) (bUse (n .op)) b;
-    }
+-- what is no drawing keeps its op
+UndrawnAlike : Node → (ℕ → Proposition) → (ℕ → Formula) → ℕ → Type 0
+UndrawnAlike n p f k = leb 27 k && leb k 29 ≡ false → formulaOf (formulaOp k) n p (λ i. undrawn (f i)) ≡ undrawn (formulaOf (formulaOp k) n p f)
 
--- ---- and stands for the node
--- as a node of op k
-copiedAs : List ℕ → ℕ → Node → Node
-copiedAs map k n = record { op = n .op; q = n .q; a = mappedTo map (aUse k) (n .a); b = mappedTo map (bUse k) (n .b) }
-
-CopiedProposition : List ℕ → Node → (ℕ → Proposition) → (ℕ → Proposition) → ℕ → Type 0
-CopiedProposition map n p p′ k =
-    (aUse k ≡ 7 → p′ (entryOf map (n .a)) ≡ p (n .a))
-    → (bUse k ≡ 7 → p′ (entryOf map (n .b)) ≡ p (n .b))
-    → propositionOf (propositionOp k) (copiedAs map k n) p′ ≡ propositionOf (propositionOp k) n p
-
-copied-proposition : (map : List ℕ) (n : Node) (p p′ : ℕ → Proposition) (k : ℕ) → CopiedProposition map n p p′ k
-unfolding CopiedProposition copiedAs mappedTo aUse bUse propositionOf propositionOp
-copied-proposition map n p p′ k =
-    proposition-cases (CopiedProposition map n p p′)
-    (λ g h. refl)
-    (λ g h. refl)
-    (λ g h. refl)
-    (λ g h. refl)
-    (λ g h. ap negated (g refl))
-    (λ g h. ap₂ bothOf (g refl) (h refl))
-    (λ g h. ap₂ eitherOf (g refl) (h refl))
+undrawn-alike : (n : Node) (p : ℕ → Proposition) (f : ℕ → Formula) (k : ℕ) → UndrawnAlike n p f k
+unfolding UndrawnAlike formulaOf formulaOp undrawn
+undrawn-alike n p f k =
+    formula-cases (UndrawnAlike n p f)
+    (λ d. refl) (λ d. refl) (λ d. refl) (λ d. refl) (λ d. refl) (λ d. refl) (λ d. refl) (λ d. refl) (λ d. refl) (λ d. refl) (λ d. refl)
+    (λ d. absurd (true≢false d))
+    (λ d. absurd (true≢false d))
+    (λ d. absurd (true≢false d))
+    (λ d. refl) (λ d. refl)
     k
-    (λ e g h. ap (λ (o : PropositionOp). propositionOf o (copiedAs map k n) p′) e ∙ sym (ap (λ (o : PropositionOp). propositionOf o n p) e))
-
-CopiedFormula : List ℕ → Node → (ℕ → Proposition) → (ℕ → Proposition) → (ℕ → Formula) → (ℕ → Formula) → ℕ → Type 0
-CopiedFormula map n p p′ f f′ k =
-    leb 27 k && leb k 29 ≡ false
-    → (aUse k ≡ 7 → p′ (entryOf map (n .a)) ≡ p (n .a))
-    → (aUse k ≡ 8 → f′ (entryOf map (n .a)) ≡ undrawn (f (n .a)))
-    → (bUse k ≡ 8 → f′ (entryOf map (n .b)) ≡ undrawn (f (n .b)))
-    → formulaOf (formulaOp k) (copiedAs map k n) p′ f′ ≡ undrawn (formulaOf (formulaOp k) n p f)
-
-copied-formula : (map : List ℕ) (n : Node) (p p′ : ℕ → Proposition) (f f′ : ℕ → Formula) (k : ℕ) → CopiedFormula map n p p′ f f′ k
-unfolding CopiedFormula copiedAs mappedTo aUse bUse formulaOf formulaOp undrawn
-copied-formula map n p p′ f f′ k =
-    formula-cases (CopiedFormula map n p p′ f f′)
-    (λ d e g h. ap point (e refl))
-    (λ d e g h. ap stretch (e refl))
-    (λ d e g h. ap whole (e refl))
-    (λ d e g h. ap unit (e refl))
-    (λ d e g h. ap₂ chop (g refl) (h refl))
-    (λ d e g h. ap₂ conjunction (g refl) (h refl))
-    (λ d e g h. ap₂ disjunction (g refl) (h refl))
-    (λ d e g h. ap star (g refl))
-    (λ d e g h. refl)
-    (λ d e g h. ap (λ (z : Proposition). scount (comparisonOf (n .q)) z (n .b)) (e refl))
-    (λ d e g h. ap (λ (z : Proposition). sdur (comparisonOf (n .q)) z (n .b)) (e refl))
-    (λ d e g h. absurd (true≢false d))
-    (λ d e g h. absurd (true≢false d))
-    (λ d e g h. absurd (true≢false d))
-    (λ d e g h. ap negation (g refl))
-    (λ d e g h. ap (forSome (n .b)) (g refl))
-    k
-    (λ other d e g h. ap (λ (o : FormulaOp). formulaOf o (copiedAs map k n) p′ f′) other ∙ sym (ap (λ (o : FormulaOp). undrawn (formulaOf o n p f)) other))
+    (λ other d. ap (λ (o : FormulaOp). formulaOf o n p (λ i. undrawn (f i))) other ∙ sym (ap (λ (o : FormulaOp). undrawn (formulaOf o n p f)) other))
 
 copied-stands : {x : ℕ → Node} {i : ℕ} {y z map : List ℕ} {r : ℕ} → operandsRight requirementSorts x i ≡ true
     → (sortOf requirementSorts (x i .op) ≡ 0 → ⊥) → isDrawing (x i) ≡ false
-    → Given x y map (aUse (x i .op)) (x i .a) → Given x y map (bUse (x i .op)) (x i .b) → Added y z r (copiedNode map (x i)) → Stands x i z r
-unfolding copiedNode copiedAs CopiedProposition CopiedFormula isDrawing
+    → Given y map (propositionAt x) (undrawnAt x) (aUse (x i .op)) (x i .a) → Given y map (propositionAt x) (undrawnAt x) (bUse (x i .op)) (x i .b)
+    → Added y z r (copiedNode map (x i)) → Stands x i z r
+unfolding undrawnAt UndrawnAlike isDrawing
 copied-stands {x} {i} {y} {z} {map} {r} kept some plain a b new =
     let sort = sort-copied (x i) plain some in
     record {
-      proposition =
-          λ e. new-proposition new _ (sort ∙ e)
-          (copied-proposition map (x i) (propositionAt x) (propositionIn z) (x i .op)
-          (λ u. proposition-kept (new .step) (a .proposition u) .tree)
-          (λ u. proposition-kept (new .step) (b .proposition u) .tree)
-          ∙ sym (proposition-law requirementSorts x i kept))
-          .has;
+      proposition = λ e. subst (HasProposition z r) (sym (proposition-law requirementSorts x i kept)) (is-proposition-copied (x i) a b new (sort ∙ e));
       formula =
-          λ e. new-formula new _ (sort ∙ e)
-          (copied-formula map (x i) (propositionAt x) (propositionIn z) (formulaAt x) (formulaIn z) (x i .op)
-          plain
-          (λ u. proposition-kept (new .step) (a .proposition u) .tree)
-          (λ u. has-kept (new .step) (a .formula u) .tree)
-          (λ u. has-kept (new .step) (b .formula u) .tree)
-          ∙ sym (ap undrawn (formula-law requirementSorts x i kept)))
-          .has;
+          λ e. subst (Has z r)
+          (undrawn-alike (x i) (propositionAt x) (formulaAt x) (x i .op) plain ∙ sym (ap undrawn (formula-law requirementSorts x i kept)))
+          (is-formula-copied (x i) a b new (sort ∙ e));
     }
 
 -- ---- drawings
@@ -336,17 +187,6 @@ pub costs-most : (x : ℕ → Node) (i : ℕ) → copyCosts x i ≤ 12 * i
 unfolding copyCosts
 costs-most x i = omega (arith, count-most i (drawingAt x))
 
--- ---- fields that bytes hold
-pub node-fits : (l : List ℕ) (i : ℕ) → ((k : ℕ) → getD l k 0 < 256) → NodeFits (nodeAt l i)
-unfolding nodeAt word
-node-fits l i h =
-    record {
-      op-fits = h (6 * i);
-      q-fits = h (6 * i + 1);
-      a-fits = omega (arith, h (6 * i + 2), h (6 * i + 2 + 1));
-      b-fits = omega (arith, h (6 * i + 4), h (6 * i + 4 + 1));
-    }
-
 -- ---- drawings take at most 12 nodes
 DrawingTold : List ℕ → Node → ℕ → Type 0
 DrawingTold y n k =
@@ -364,7 +204,7 @@ drawing-told {y} n ready fits drawing right =
     (λ q a. symbol-told ready (symbolOf (n .q)) (ltb-true _ _ (and-left (ltb (n .a) s) true a)))
     (λ q a. mark-told ready (ltb-true _ _ (and-left (ltb (n .a) m) true a)))
     (λ q a. gap-told ready (ltb-true _ _ (and-left (ltb (n .q / 16) m) _ q)) (ltb-true _ _ (and-right (ltb (n .q / 16) m) _ q)) (fits .a-fits) (fits .b-fits))
-    n drawing (q-right s m n right) (a-right s m n right)
+    n drawing (q-right requirementSorts s m n right) (a-right requirementSorts s m n right)
 
 pub gap-is : (n : Node) → isDrawing n ≡ true → (n .op ≡ 27 → ⊥) → (n .op ≡ 28 → ⊥) → n .op ≡ 29
 unfolding isDrawing
@@ -384,8 +224,11 @@ copied {y} {z} {r = r} x i ready room right kept mapped (byOthers drawing fits w
 copied {y} {z} x i ready room right kept mapped (itself plain fits put) =
     let a = given-a kept mapped in
     let b = given-b kept mapped in
-    let new = put-added (may-copy (x i) (ready .good) (omega arith) fits plain right a b) put in
-    (subst (λ (b : Bool). Step y z (cond b 12 1)) (sym plain) (new .step), copied-stands kept (some-sort _ _ (x i) right) plain a b new)
+    let new = put-added
+    (may-copy requirementSorts (x i) (ready .good) (omega arith) fits (sort-copied (x i) plain (some-sort requirementSorts _ _ (x i) right)) (no-gap (x i) plain) right a b)
+    put
+    in
+    (subst (λ (b : Bool). Step y z (cond b 12 1)) (sym plain) (new .step), copied-stands kept (some-sort requirementSorts _ _ (x i) right) plain a b new)
 
 -- one turn of the loop over the n nodes of a sheet
 pub copied-next : {x y z map nodes : List ℕ} {n r : ℕ} (i : ℕ) → Ready x → count x + 768 ≤ mostEmitted → NodesIn x nodes n → i < n → length map ≡ 64

@@ -1,9 +1,8 @@
 -- The sheet's nodes, as they are copied.
 use Prim.Native.Nat.{ℕ, _+_, _*_, _≤_, _<_}
-use mathlib.Core.Bool.{true, false, cond, _||_}
+use mathlib.Core.Bool.{true, false, cond}
 use mathlib.Core.List.{List}
 use mathlib.Core.Path.{_≡_}
-use lib.Dec.{eqb}
 use lib.ListN.{length}
 use Rattle.semantics.specs.Proposition.{Proposition, never}
 use Rattle.semantics.specs.Formula.{Formula}
@@ -11,7 +10,7 @@ use Rattle.semantics.specs.Cycles.{countBelow}
 use Rattle.semantics.specs.Translation.{nothing, undrawn}
 use Rattle.stored.specs.declared.Node.{Node}
 use Rattle.stored.specs.Layout.{nodeSize, mostNodes}
-use Rattle.stored.specs.Node.{requirementSorts, sortOf, aUse, bUse, nodeAt, fieldsRight, operandsRight}
+use Rattle.stored.specs.Node.{requirementSorts, sortOf, aUse, bUse, isOperand, nodeAt, fieldsRight, operandsRight}
 use Rattle.stored.specs.Tree.{propositionAt, formulaOp, formulaOf, formulaAt}
 use Rattle.stored.specs.Reach.{entryOf}
 use Rattle.stored.specs.Sheet.{headerOf}
@@ -31,7 +30,7 @@ Mapped x i y map = (k : ℕ) → k < i → Stands x k y (entryOf map k)
 
 -- a field of value v, used so, in the copy
 unfoldable pub mappedTo : List ℕ → ℕ → ℕ → ℕ
-mappedTo map what v = cond (eqb what 7 || eqb what 8) (entryOf map v) v
+mappedTo map what v = cond (isOperand what) (entryOf map v) v
 
 unfoldable pub copiedNode : List ℕ → Node → Node
 copiedNode map n =

@@ -28,7 +28,8 @@ fn mapped(map: &[usize], what: usize, v: usize) -> usize
     v
 }
 
-fn put_copy(out: &mut [u8], map: &[usize], x: Node) -> usize
+// Node x, where the map gives the nodes that stand for its operands.
+pub fn put_copy(out: &mut [u8], map: &[usize], x: Node) -> usize
     ensures { λ r. ⌜ Put (copiedNode (now (map .entry)) x) (now (out .entry)) (now (out .exit)) r ⌝ }
 {
     let op = x.op;

@@ -8,7 +8,7 @@ ghost use mathlib.Core.Path.{_≡_};
 ghost use Rattle.plans.specs.Plan.{fits, Put, node, opSignal, opName, opNegated, opPoint, opStretch, opUnit, opChop, opAnd, opOr, opLength, opCount, opNot, opSome};
 
 // Document 01's bound on a formula's nodes at its largest.
-const MOST_EMITTED: usize = 1025;
+pub const MOST_EMITTED: usize = 1025;
 
 // The node's fields fit their bytes, and there is room for one node more.
 fn fits(out: &[u8], x: Node) -> bool

@@ -10,7 +10,7 @@ use lib.ListN.{length}
 use Rattle.semantics.specs.Proposition.{Trace, bit}
 use Rattle.semantics.specs.Formula.{Formula, disjunction, negation}
 use Rattle.semantics.specs.Clause.{Role, assumption, commitment, advice, Clause}
-use Rattle.semantics.specs.Verdict.{sameRole, hasRole, failsAs, someFails, requirement, adviceOf, verdict}
+use Rattle.semantics.specs.Verdict.{sameRole, hasRole, failsAs, someFails, requirement, besideAdvice, withoutAdvice, adviceOf, verdict}
 use Rattle.semantics.specs.Translation.{nothing, brokenClause, joinBroken, translation}
 use Rattle.semantics.proofs.Bits.{bit-lowest, bit-higher}
 
@@ -61,3 +61,20 @@ module _ (c : Clause) (is : c .role ≡ advice) where
   unfolding translation sameRole
   translation-over earlier later =
       ap₂ (λ (f g : Formula). disjunction f (negation g)) (join-over assumption refl earlier later nothing) (join-over commitment refl earlier later nothing)
+
+-- ---- the formula is that of the other clauses
+join-without : (r : Role) → sameRole r advice ≡ false → (cs : List Clause) (f : Formula) → joinBroken r f (withoutAdvice cs) ≡ joinBroken r f cs
+unfolding joinBroken withoutAdvice besideAdvice hasRole
+join-without r other [] f = refl
+join-without r other (c ∷ cs) f = go (c .role) refl (join-without r other cs)
+  where
+    go : (k : Role) → c .role ≡ k → ((g : Formula) → joinBroken r g (withoutAdvice cs) ≡ joinBroken r g cs)
+        → joinBroken r f (besideAdvice k c (withoutAdvice cs)) ≡ joinBroken r (cond (hasRole r c) (disjunction f (brokenClause c)) f) cs
+    go assumption e later = later (cond (hasRole r c) (disjunction f (brokenClause c)) f)
+    go commitment e later = later (cond (hasRole r c) (disjunction f (brokenClause c)) f)
+    go advice e later = rw (e, other) (later f)
+
+pub translation-without : (cs : List Clause) → translation (withoutAdvice cs) ≡ translation cs
+unfolding translation sameRole
+translation-without cs =
+    ap₂ (λ (f g : Formula). disjunction f (negation g)) (join-without assumption refl cs nothing) (join-without commitment refl cs nothing)

@@ -21,6 +21,16 @@ sameRole advice advice = true
 unfoldable pub hasRole : Role → Clause → Bool
 hasRole r c = sameRole r (c .role)
 
+-- the clauses that are no advice
+unfoldable pub besideAdvice : Role → Clause → List Clause → List Clause
+besideAdvice assumption c cs = c ∷ cs
+besideAdvice commitment c cs = c ∷ cs
+besideAdvice advice c cs = cs
+
+unfoldable pub withoutAdvice : List Clause → List Clause
+withoutAdvice [] = []
+withoutAdvice (c ∷ cs) = besideAdvice (c .role) c (withoutAdvice cs)
+
 -- the clause has the role and fails
 unfoldable pub failsAs : Role → Trace → Clause → Bool
 failsAs r σ c = hasRole r c && fails c σ

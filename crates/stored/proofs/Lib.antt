@@ -10,4 +10,5 @@ pub mod Accepted
 pub mod Answer
 pub mod Written
 pub mod Emitted
+pub mod Ways
 pub mod Examples

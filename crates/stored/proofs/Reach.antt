@@ -15,7 +15,7 @@ use Rattle.semantics.specs.Placement.{Names, listed}
 use Rattle.semantics.specs.Reach.{propositionWithin, within}
 use Rattle.stored.specs.declared.Node.{Node}
 use Rattle.stored.specs.Bytes.{everyBelow}
-use Rattle.stored.specs.Node.{requirementSorts, sortOf, qUse, aUse, bUse, fieldRight, fieldsRight, operandsRight}
+use Rattle.stored.specs.Node.{requirementSorts, sortOf, qUse, aUse, bUse, isOperand, fieldRight, fieldsRight, operandsRight}
 use Rattle.stored.specs.Tree.{earlier, propositionOp, formulaOp, propositionOf, propositionAt, formulaOf, formulaAt}
 use Rattle.stored.specs.Reach.{joint, nameMask, fieldReach, nodeReach, reachStep, reachAt, covers, reachTable, entryOf}
 use Rattle.semantics.proofs.Tests.{and-left, and-right}
@@ -105,7 +105,7 @@ field-small r what v h =
     cond-small (eqb what 2) (nameMask v) _ (name-small v)
     (cond-small (eqb what 5) (joint (nameMask (v / 16)) (nameMask (v % 16))) _
     (joint-small (nameMask (v / 16)) (nameMask (v % 16)) (name-small (v / 16)) (name-small (v % 16)))
-    (cond-small (eqb what 7 || eqb what 8) (r v) 0 h (omega arith)))
+    (cond-small (isOperand what) (r v) 0 h (omega arith)))
 
 pub node-small : (r : ℕ → ℕ) (n : Node) → ((v : ℕ) → r v < 8) → nodeReach r n < 8
 unfolding nodeReach
@@ -193,7 +193,7 @@ module _ (names : Names) (s m : ℕ) (three : m ≤ 3) (n : Node) (r : ℕ → �
       rw (joint-zero-l (joint (nameMask u) 0), joint-zero-r (nameMask u)) (sym (covers-name u names (omega arith)))
 
   proposed : (p : ℕ → Proposition) (k : ℕ) → Proposed p k
-  unfolding Proposed reached sortOf qUse aUse bUse fieldReach propositionWithin propositionOf propositionOp
+  unfolding Proposed reached sortOf qUse aUse bUse isOperand fieldReach propositionWithin propositionOf propositionOp
   proposed p k =
       proposition-cases (Proposed p)
       (λ o f g h. none)
@@ -226,7 +226,7 @@ module _ (names : Names) (s m : ℕ) (three : m ≤ 3) (n : Node) (r : ℕ → �
       (ap₂ (λ (y z : Bool). y && z) (sym (covers-name u names low)) (sym (covers-name v names high)))
 
   formed : (p : ℕ → Proposition) (t : ℕ → Formula) (k : ℕ) → Formed p t k
-  unfolding Formed reached sortOf qUse aUse bUse fieldReach within formulaOf formulaOp
+  unfolding Formed reached sortOf qUse aUse bUse isOperand fieldReach within formulaOf formulaOp
   formed p t k =
       formula-cases (Formed p t)
       (λ o e f g h i. one (n .a) _ (g refl))

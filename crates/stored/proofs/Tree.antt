@@ -6,12 +6,12 @@ use mathlib.Core.Path.{_≡_, refl, sym, _∙_, ap, ap₂, subst, fun-ext}
 use native.Mathlib.Omega.{arith}
 use borrow.Author.Tests.{ltb-true, eqb-true, eq-eqb}
 use lib.Dec.{eqb, ltb}
-use lib.ListN.{List·getD-eq-default}
+use lib.ListN.{length, List·getD-eq-default}
 use Rattle.semantics.specs.Proposition.{Proposition, never, bothOf, eitherOf, negated}
 use Rattle.semantics.specs.Formula.{Formula, below, slen, chop, conjunction, disjunction, star, negation, forSome, point, stretch, whole, unit, scount, sdur}
 use Rattle.stored.specs.declared.Node.{Node}
 use Rattle.stored.specs.Bytes.{everyBelow}
-use Rattle.stored.specs.Node.{requirementSorts, sortOf, sortBelow, aUse, bUse, operandRight, operandsRight}
+use Rattle.stored.specs.Node.{requirementSorts, emittedSorts, sortOf, sortBelow, aUse, bUse, operandRight, operandsRight}
 use Rattle.stored.specs.Tree.{earlier, PropositionOp, neverOp, alwaysOp, signalOp, nameOp, negatedOp, bothOp, eitherOp, noProposition, FormulaOp, pointOp, stretchOp, wholeOp, unitOp, chopOp, conjunctionOp, disjunctionOp, starOp, slenOp, scountOp, sdurOp, drawnOp, atOp, gapOp, negationOp, forSomeOp, noFormula, propositionOp, formulaOps, formulaOp, propositionOf, propositionStep, propositionAt, formulaOf, formulaStep, formulaAt}
 use Rattle.semantics.proofs.Tests.{and-left, and-right}
 use Rattle.stored.proofs.Rules.{asked, every-number}
@@ -110,32 +110,51 @@ formula-cases P p16 p17 p18 p19 p20 p21 p22 p23 p24 p25 p26 p27 p28 p29 p30 p31 
     go forSomeOp e = at forSomeOp 31 e (λ h. h) p31
     go noFormula e = other e
 
--- a node of a kind 1 sheet that is sorted as a proposition or a formula has the op of one
-sortedProposition : ℕ → ℕ → PropositionOp → Bool
-sortedProposition k sort o = not (eqb sort 1) || not (eqb (propositionNumber o) 0)
+-- a node of either kind that is sorted as a proposition or a formula has the op of one
+sortedProposition : ℕ → PropositionOp → Bool
+sortedProposition sort o = not (eqb sort 1) || not (eqb (propositionNumber o) 0)
+
+sortedFormula : ℕ → FormulaOp → Bool
+sortedFormula sort o = not (eqb sort 2) || not (eqb (formulaNumber o) 0)
+
+module _ (sorts : List ℕ) (long : length sorts ≤ 32) where
+  proposition-sorted : everyBelow 32 (λ j. sortedProposition (sortOf sorts j) (propositionOp j)) ≡ true
+      → (k : ℕ) → sortOf sorts k ≡ 1 → propositionOp k ≡ noProposition → ⊥
+  unfolding sortOf sortedProposition propositionNumber
+  proposition-sorted all k e none =
+      false≢true
+      (asked (eqb (sortOf sorts k) 1) false
+      (subst (λ (o : PropositionOp). sortedProposition (sortOf sorts k) o ≡ true) none
+      (every-number 32 (λ j. sortedProposition (sortOf sorts j) (propositionOp j)) all
+      (λ j h. ap (λ (z : ℕ). sortedProposition z (propositionOp j)) (List·getD-eq-default sorts 0 (omega arith))) k))
+      (eq-eqb (sortOf sorts k) 1 e))
+
+  formula-sorted : everyBelow 32 (λ j. sortedFormula (sortOf sorts j) (formulaOp j)) ≡ true
+      → (k : ℕ) → sortOf sorts k ≡ 2 → formulaOp k ≡ noFormula → ⊥
+  unfolding sortOf sortedFormula formulaNumber
+  formula-sorted all k e none =
+      false≢true
+      (asked (eqb (sortOf sorts k) 2) false
+      (subst (λ (o : FormulaOp). sortedFormula (sortOf sorts k) o ≡ true) none
+      (every-number 32 (λ j. sortedFormula (sortOf sorts j) (formulaOp j)) all
+      (λ j h. ap (λ (z : ℕ). sortedFormula z (formulaOp j)) (List·getD-eq-default sorts 0 (omega arith))) k))
+      (eq-eqb (sortOf sorts k) 2 e))
 
 pub is-proposition : (k : ℕ) → sortOf requirementSorts k ≡ 1 → propositionOp k ≡ noProposition → ⊥
 unfolding propositionOp sortOf sortedProposition propositionNumber everyBelow
-is-proposition k e none =
-    false≢true
-    (asked (eqb (sortOf requirementSorts k) 1) false
-    (subst (λ (o : PropositionOp). sortedProposition k (sortOf requirementSorts k) o ≡ true) none
-    (every-number 32 (λ j. sortedProposition j (sortOf requirementSorts j) (propositionOp j)) refl
-    (λ j h. ap (λ (z : ℕ). sortedProposition j z (propositionOp j)) (List·getD-eq-default requirementSorts 0 h)) k))
-    (eq-eqb (sortOf requirementSorts k) 1 e))
-
-sortedFormula : ℕ → ℕ → FormulaOp → Bool
-sortedFormula k sort o = not (eqb sort 2) || not (eqb (formulaNumber o) 0)
+is-proposition = proposition-sorted requirementSorts (omega arith) refl
 
 pub is-formula : (k : ℕ) → sortOf requirementSorts k ≡ 2 → formulaOp k ≡ noFormula → ⊥
 unfolding formulaOp sortOf sortedFormula formulaNumber everyBelow
-is-formula k e none =
-    false≢true
-    (asked (eqb (sortOf requirementSorts k) 2) false
-    (subst (λ (o : FormulaOp). sortedFormula k (sortOf requirementSorts k) o ≡ true) none
-    (every-number 32 (λ j. sortedFormula j (sortOf requirementSorts j) (formulaOp j)) refl
-    (λ j h. ap (λ (z : ℕ). sortedFormula j z (formulaOp j)) (List·getD-eq-default requirementSorts 0 h)) k))
-    (eq-eqb (sortOf requirementSorts k) 2 e))
+is-formula = formula-sorted requirementSorts (omega arith) refl
+
+pub emitted-proposition : (k : ℕ) → sortOf emittedSorts k ≡ 1 → propositionOp k ≡ noProposition → ⊥
+unfolding propositionOp sortOf sortedProposition propositionNumber everyBelow
+emitted-proposition = proposition-sorted emittedSorts (omega arith) refl
+
+pub emitted-formula : (k : ℕ) → sortOf emittedSorts k ≡ 2 → formulaOp k ≡ noFormula → ⊥
+unfolding formulaOp sortOf sortedFormula formulaNumber everyBelow
+emitted-formula = formula-sorted emittedSorts (omega arith) refl
 
 -- where a node of the needed sort stands
 pub record Earlier (sorts : List ℕ) (x : ℕ → Node) (i v sort : ℕ) : Type 0 where

@@ -9,3 +9,4 @@ pub mod Sheet
 pub mod Written
 pub mod Output
 pub mod Emitted
+pub mod Reached

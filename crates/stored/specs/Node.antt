@@ -65,6 +65,10 @@ aUse op = getD aUses op 0
 unfoldable pub bUse : ℕ → ℕ
 bUse op = getD bUses op 0
 
+-- a field used so is the number of a node
+unfoldable pub isOperand : ℕ → Bool
+isOperand what = eqb what 7 || eqb what 8
+
 -- a field of value v, used so, on a sheet of s signals and m names: zero if unused, in range if used
 unfoldable pub fieldRight : ℕ → ℕ → ℕ → ℕ → Bool
 fieldRight s m what v =

@@ -10,7 +10,7 @@ use Rattle.semantics.specs.Placement.{Names}
 use Rattle.stored.specs.declared.Node.{Node}
 use Rattle.stored.specs.Bytes.{inOrder}
 use Rattle.stored.specs.Layout.{mostNodes}
-use Rattle.stored.specs.Node.{qUse, aUse, bUse}
+use Rattle.stored.specs.Node.{qUse, aUse, bUse, isOperand}
 use Rattle.stored.specs.Tree.{earlier, made}
 
 unfoldable pub joint : ℕ → ℕ → ℕ
@@ -24,7 +24,7 @@ unfoldable pub fieldReach : (ℕ → ℕ) → ℕ → ℕ → ℕ
 fieldReach r what v =
     cond (eqb what 2)
     (nameMask v)
-    (cond (eqb what 5) (joint (nameMask (v / 16)) (nameMask (v % 16))) (cond (eqb what 7 || eqb what 8) (r v) 0))
+    (cond (eqb what 5) (joint (nameMask (v / 16)) (nameMask (v % 16))) (cond (isOperand what) (r v) 0))
 
 unfoldable pub nodeReach : (ℕ → ℕ) → Node → ℕ
 nodeReach r n =

@@ -11,6 +11,8 @@ use Rattle.semantics.specs.Formula.{Formula, trueOf}
 use Rattle.semantics.specs.Placement.{noNames}
 use Rattle.semantics.specs.Reach.{within}
 use Rattle.semantics.specs.Translation.{translation}
+use Rattle.semantics.specs.Clause.{Clause}
+use Rattle.semantics.proofs.Advice.{translation-without}
 use Rattle.semantics.proofs.Agreement.{agreement}
 use Rattle.semantics.proofs.Tests.{and-intro}
 use Rattle.stored.specs.declared.Node.{Node}
@@ -21,6 +23,7 @@ use Rattle.stored.specs.Node.{emittedSorts, sortOf, sortBelow, nodeRight, isFor
 use Rattle.stored.specs.Tree.{pick, formulaAt}
 use Rattle.stored.specs.Sheet.{headerOf, nodePart, clausePart, nodesOf, storedOf, framed, versioned, sized, sheetRefusal, sheetAnswer, sheetNumber, clauseIn, clausesOf, requirementOf}
 use Rattle.stored.specs.Emitted.{ofKindTwo, emittedCounted, rootOf, emittedFormula, emittedNodes, emittedOperands, isEmitted, emittedTrue}
+use Rattle.stored.specs.Reached.{Reached}
 use Rattle.stored.specs.Layout.{emittedKind, nodesEnd, clausesEnd, following, leastOutput}
 use Rattle.stored.specs.Written.{nodeIn, putHeader, headerBytes}
 use Rattle.stored.proofs.Rules.{every-all}
@@ -33,11 +36,13 @@ use Rattle.stored.specs.declared.WriteAnswer.the-variants.{Written, Refused}
 use Rattle.stored.specs.Output.{writeAnswer, writeNumber, writtenLength}
 use Rattle.translator.specs.Refusal.{translateRefusal}
 use Rattle.plans.specs.Bound.{drawings, nodeBound}
+use Rattle.translator.specs.Draft.{DraftOf}
 use Rattle.translator.specs.Translated.{FormulaOf, Translated}
 use Rattle.plans.specs.Emission.{count, formulaIn, Good, Step, Has, Emits}
 use Rattle.emission.specs.Copying.{copyCosts, NodesIn}
 use Rattle.clauses.specs.Clauses.{ClausesIn, clauseAt, clausesAt, requirementCost}
-use Rattle.plans.proofs.Steps.{steps, operands-same}
+use Rattle.pruning.specs.Pruned.{PrunedTo, Drafted}
+use Rattle.plans.proofs.Steps.{operands-same}
 use Rattle.clauses.proofs.Joining.{joined-bound}
 use Rattle.semantics.proofs.Closed.{translation-closed}
 
@@ -189,24 +194,12 @@ module _ (y : List ℕ) (r : ℕ) (f : Formula) (good : Good y) (has : Has y r f
         root-closed = ap (within noNames) cut-formula ∙ closed;
       })
 
--- ---- the whole run
+-- ---- the draft
 module _ (s x y₀ y₁ y₂ : List ℕ) (r : ℕ) (o : Opened s) (big : leastOutput ≤ length x)
     (e₀ : y₀ ≡ putHeader x emittedKind (headerOf s .signals) (headerOf s .names) 0 0)
     (s₁ : Step y₀ y₁ (3 + 2 * headerOf s .names))
     (e₂ : Emits y₁ y₂ r (requirementCost (nodePart s) (headerOf s .nodes) (headerOf s .clauses) (headerOf y₁ .names)) (translation (clausesAt (nodePart s) (clausePart s) (headerOf s .clauses))))
     (last : count y₂ ≡ r + 1) where
-  closed : within noNames (translation (clausesAt (nodePart s) (clausePart s) (headerOf s .clauses))) ≡ true
-  closed = rw (clauses-same s) (translation-closed (clausesOf s) (accepted-fits s o))
-
-  good₂ : Good y₂
-  good₂ = e₂ .step .good
-
-  names-same : headerOf y₂ .names ≡ headerOf s .names
-  names-same = e₂ .step .names ∙ s₁ .names ∙ empty-names x y₀ (headerOf s .signals) (headerOf s .names) big e₀
-
-  signals-same : headerOf y₂ .signals ≡ headerOf s .signals
-  signals-same = e₂ .step .signals ∙ s₁ .signals ∙ empty-signals x y₀ (headerOf s .signals) (headerOf s .names) big e₀
-
   bounded : count y₂ ≤ nodeBound s
   unfolding nodeBound drawings requirementCost copyCosts nodesOf
   bounded =
@@ -220,32 +213,64 @@ module _ (s x y₀ y₁ y₂ : List ℕ) (r : ℕ) (o : Opened s) (big : leastOu
         joined-bound (headerOf s .clauses) (headerOf s .names) (o .in-range .some-clauses) (o .in-range .few-names),
       )
 
-  pub formula-written : FormulaOf s (take (nodesEnd (r + 1)) y₂)
-  unfolding emittedTrue requirementOf
-  formula-written =
-      let h = cut-header y₂ r _ good₂ (e₂ .has) last closed in
+  draft-written : DraftOf s y₂ r
+  draft-written =
       record {
-        form = is-emitted y₂ r _ good₂ (e₂ .has) last closed;
-        signals = ap (λ (g : Header). g .signals) h ∙ signals-same;
-        names = ap (λ (g : Header). g .names) h ∙ names-same;
-        bound = rw h bounded;
-        agreement =
-            λ σ positive.
-            ap (λ (f : Formula). trueOf f σ) (cut-formula y₂ r _ good₂ (e₂ .has) last closed ∙ ap translation (clauses-same s))
-            ∙ agreement σ positive (clausesOf s) (accepted-fits s o);
+        good = e₂ .step .good;
+        last = last;
+        signals = e₂ .step .signals ∙ s₁ .signals ∙ empty-signals x y₀ (headerOf s .signals) (headerOf s .names) big e₀;
+        names = e₂ .step .names ∙ s₁ .names ∙ empty-names x y₀ (headerOf s .signals) (headerOf s .names) big e₀;
+        bound = bounded;
+        has = subst (λ (cs : List Clause). Has y₂ r (translation cs)) (clauses-same s) (e₂ .has);
       }
 
-  pub length-written : length (take (nodesEnd (r + 1)) y₂) ≡ nodesEnd (r + 1)
-  length-written = cut-length y₂ r _ good₂ (e₂ .has) last closed
+-- ---- the formula: what the draft's root reaches
+module _ (s x y₀ y d : List ℕ) (root r : ℕ) (o : Opened s) (big : leastOutput ≤ length x)
+    (e₀ : y₀ ≡ putHeader x emittedKind (headerOf s .signals) (headerOf s .names) 0 0)
+    (draft : DraftOf s d root) (pruned : PrunedTo d root y₀ y r) where
+  good : Good y
+  good = pruned .step .good
 
-  pub later-kept : drop (nodesEnd (r + 1)) y₂ ≡ drop (nodesEnd (r + 1)) x
+  closed : within noNames (translation (clausesOf s)) ≡ true
+  closed = translation-closed (clausesOf s) (accepted-fits s o)
+
+  has : Has y r (translation (clausesOf s))
+  unfolding formulaIn
+  has = subst (Has y r) (draft .has .tree) (pruned .same .formula (draft .has .sorted))
+
+  cut-reached : (i : ℕ) → i < headerOf (take (nodesEnd (r + 1)) y) .nodes → Reached (nodesOf (take (nodesEnd (r + 1)) y)) (rootOf (take (nodesEnd (r + 1)) y)) i
+  cut-reached i l =
+      subst (λ (k : ℕ). Reached (nodesOf (take (nodesEnd (r + 1)) y)) k i) (sym (root-is y r _ good has (pruned .last) closed))
+      (pruned .reached (nodesOf (take (nodesEnd (r + 1)) y)) (cut-node y r _ good has (pruned .last) closed) i
+      (omega (arith, l, ap (λ (g : Header). g .nodes) (cut-header y r _ good has (pruned .last) closed))))
+
+  pub formula-written : FormulaOf s (take (nodesEnd (r + 1)) y)
+  unfolding emittedTrue requirementOf
+  formula-written =
+      let h = cut-header y r _ good has (pruned .last) closed in
+      let tree = cut-formula y r _ good has (pruned .last) closed in
+      let none = empty-count x y₀ (headerOf s .signals) (headerOf s .names) big e₀ in
+      record {
+        form = is-emitted y r _ good has (pruned .last) closed;
+        signals = ap (λ (g : Header). g .signals) h ∙ pruned .step .signals ∙ empty-signals x y₀ (headerOf s .signals) (headerOf s .names) big e₀;
+        names = ap (λ (g : Header). g .names) h ∙ pruned .step .names ∙ empty-names x y₀ (headerOf s .signals) (headerOf s .names) big e₀;
+        bound = rw h (omega (arith, none, pruned .step .few, draft .last, draft .bound));
+        reached = cut-reached;
+        tree = tree ∙ sym (translation-without (clausesOf s));
+        agreement = λ σ positive. ap (λ (f : Formula). trueOf f σ) tree ∙ agreement σ positive (clausesOf s) (accepted-fits s o);
+      }
+
+  pub length-written : length (take (nodesEnd (r + 1)) y) ≡ nodesEnd (r + 1)
+  length-written = cut-length y r _ good has (pruned .last) closed
+
+  pub later-kept : drop (nodesEnd (r + 1)) y ≡ drop (nodesEnd (r + 1)) x
   later-kept =
-      steps s₁ (e₂ .step) .back (nodesEnd (r + 1)) (omega arith)
+      pruned .step .back (nodesEnd (r + 1)) (omega (arith, pruned .last))
       ∙ ap (drop (nodesEnd (r + 1))) e₀
       ∙ header-back x emittedKind (headerOf s .signals) (headerOf s .names) 0 0 (nodesEnd (r + 1)) (omega arith)
 
-  pub size-kept : length y₂ ≡ length x
-  size-kept = steps s₁ (e₂ .step) .size ∙ empty-length x y₀ (headerOf s .signals) (headerOf s .names) big e₀
+  pub size-kept : length y ≡ length x
+  size-kept = pruned .step .size ∙ empty-length x y₀ (headerOf s .signals) (headerOf s .names) big e₀
 
 -- ---- the three outcomes
 -- an answer has the number that applies
@@ -275,23 +300,23 @@ sheet-refused s x answer k told e =
     let r = answer-refused s k (sym told ∙ e) in
     rw e (refused-law s x k (rw (r .0) (r .1)) (λ z. borrow.Author.Tests.eqb-false (sheetRefusal s) 0 (r .0) (r .1 ∙ z)))
 
-module _ (s x : List ℕ) (answer : SheetAnswer) (h : Header) (told : answer ≡ sheetAnswer s) (taken : answer ≡ SheetAnswer.Accepted h) where
+module _ (s : List ℕ) (h : Header) (accepted : sheetAnswer s ≡ SheetAnswer.Accepted h) where
   no-number : sheetRefusal s ≡ 0
-  no-number = answer-accepted s h (sym told ∙ taken) .0
+  no-number = answer-accepted s h accepted .0
 
   pub header-is : headerOf s ≡ h
-  header-is = answer-accepted s h (sym told ∙ taken) .1
+  header-is = answer-accepted s h accepted .1
 
   pub opened-sheet : Opened s
   opened-sheet = Rattle.stored.proofs.Accepted.opened s no-number
 
-  pub output-refused : length x < leastOutput → Translated s x x (Refused 14)
+  pub output-refused : (x : List ℕ) → length x < leastOutput → Translated s x x (Refused 14)
   unfolding translateRefusal
-  output-refused l = refused-law s x 14 (rw (no-number, lt-ltb (length x) leastOutput l)) (λ z. omega arith)
+  output-refused x l = refused-law s x 14 (rw (no-number, lt-ltb (length x) leastOutput l)) (λ z. omega arith)
 
-  pub translated : (y : List ℕ) (l : ℕ) → leastOutput ≤ length x → length y ≡ length x → FormulaOf s (take l y) → length (take l y) ≡ l → drop l y ≡ drop l x → Translated s x y (Written l)
+  translated : (x y : List ℕ) (l : ℕ) → leastOutput ≤ length x → length y ≡ length x → FormulaOf s (take l y) → length (take l y) ≡ l → drop l y ≡ drop l x → Translated s x y (Written l)
   unfolding translateRefusal writeAnswer writtenLength pick
-  translated y l big size formula long later =
+  translated x y l big size formula long later =
       let none : translateRefusal s (length x) ≡ 0 = rw (no-number, le-ltb (length x) leastOutput big) in
       record {
         answer = rw none;
@@ -302,7 +327,7 @@ module _ (s x : List ℕ) (answer : SheetAnswer) (h : Header) (told : answer ≡
         later = λ z. later;
       }
 
--- the run by the header that was read: header, shared nodes, requirement
+-- the draft by the header that was read: header, shared nodes, requirement
 pub record Run (s x : List ℕ) (h : Header) (y : List ℕ) (r : ℕ) : Type 0 where
   pub y₀ : List ℕ
   pub y₁ : List ℕ
@@ -312,16 +337,38 @@ pub record Run (s x : List ℕ) (h : Header) (y : List ℕ) (r : ℕ) : Type 0 w
       Emits y₁ y r (requirementCost (nodePart s) (h .nodes) (h .clauses) (headerOf y₁ .names)) (translation (clausesAt (nodePart s) (clausePart s) (h .clauses)))
   pub last : count y ≡ r + 1
 
-pub run-translated : (s x : List ℕ) (answer : SheetAnswer) (h : Header) → answer ≡ sheetAnswer s → answer ≡ SheetAnswer.Accepted h → (y : List ℕ) (r l : ℕ) → l ≡ nodesEnd (r + 1) → leastOutput ≤ length x → Run s x h y r → Translated s x y (Written l)
-run-translated s x answer h told taken y r l e big run =
-    let o = opened-sheet s x answer h told taken in
-    let u : Run s x (headerOf s) y r = subst (λ (g : Header). Run s x g y r) (sym (header-is s x answer h told taken)) run in
-    rw e
-    (translated s x answer h told taken y (nodesEnd (r + 1)) big
-    (size-kept s x (u .y₀) (u .y₁) y r o big (u .headed) (u .shared) (u .required) (u .last))
-    (formula-written s x (u .y₀) (u .y₁) y r o big (u .headed) (u .shared) (u .required) (u .last))
-    (length-written s x (u .y₀) (u .y₁) y r o big (u .headed) (u .shared) (u .required) (u .last))
-    (later-kept s x (u .y₀) (u .y₁) y r o big (u .headed) (u .shared) (u .required) (u .last)))
+pub run-drafted : {y : List ℕ} {r : ℕ} (s x : List ℕ) (h : Header) → sheetAnswer s ≡ SheetAnswer.Accepted h → leastOutput ≤ length x → Run s x h y r → DraftOf s y r
+run-drafted {y} {r} s x h accepted big run =
+    let u : Run s x (headerOf s) y r = subst (λ (g : Header). Run s x g y r) (sym (header-is s h accepted)) run in
+    draft-written s x (u .y₀) (u .y₁) y r (opened-sheet s h accepted) big (u .headed) (u .shared) (u .required) (u .last)
+
+-- bytes with a header and no node, for what the draft's root reaches
+module _ {s y₀ d : List ℕ} {h : Header} {root : ℕ} (x : List ℕ) (accepted : sheetAnswer s ≡ SheetAnswer.Accepted h) (big : leastOutput ≤ length x)
+    (draft : DraftOf s d root) (e : y₀ ≡ putHeader x emittedKind (h .signals) (h .names) 0 0) where
+  headed : y₀ ≡ putHeader x emittedKind (headerOf s .signals) (headerOf s .names) 0 0
+  headed = subst (λ (g : Header). y₀ ≡ putHeader x emittedKind (g .signals) (g .names) 0 0) (sym (header-is s h accepted)) e
+
+  pub drafted : Drafted d root y₀
+  drafted =
+      let k = opened-sheet s h accepted .in-range in
+      record {
+        good = draft .good;
+        last = draft .last;
+        new = empty-good x y₀ (headerOf s .signals) (headerOf s .names) big headed (k .some-signals) (k .few-signals) (k .few-names);
+        none = empty-count x y₀ (headerOf s .signals) (headerOf s .names) big headed;
+        signals = empty-signals x y₀ (headerOf s .signals) (headerOf s .names) big headed ∙ sym (draft .signals);
+        names = empty-names x y₀ (headerOf s .signals) (headerOf s .names) big headed ∙ sym (draft .names);
+      }
+
+  pub run-translated : {y : List ℕ} {r l : ℕ} → PrunedTo d root y₀ y r → l ≡ nodesEnd (r + 1) → Translated s x y (Written l)
+  run-translated {y} {r} {l} pruned f =
+      let o = opened-sheet s h accepted in
+      rw f
+      (translated s h accepted x y (nodesEnd (r + 1)) big
+      (size-kept s x y₀ y d root r o big headed draft pruned)
+      (formula-written s x y₀ y d root r o big headed draft pruned)
+      (length-written s x y₀ y d root r o big headed draft pruned)
+      (later-kept s x y₀ y d root r o big headed draft pruned))
 
 -- what was put for the parts that were handed over was put for the sheet's
 pub required-parts : (s y y′ : List ℕ) (r : ℕ) (h : Header) (nodes clauses : List ℕ) → nodes ≡ nodePart s → clauses ≡ clausePart s

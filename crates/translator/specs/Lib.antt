@@ -1,3 +1,4 @@
 -- What translate promises.
 pub mod Refusal
+pub mod Draft
 pub mod Translated

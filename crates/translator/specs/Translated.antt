@@ -5,8 +5,11 @@ use mathlib.Core.List.{List}
 use mathlib.Core.Path.{_≡_}
 use lib.ListN.{length, take, drop}
 use Rattle.semantics.specs.Proposition.{Trace}
-use Rattle.stored.specs.Sheet.{headerOf, requirementOf}
-use Rattle.stored.specs.Emitted.{isEmitted, emittedTrue}
+use Rattle.semantics.specs.Verdict.{withoutAdvice}
+use Rattle.semantics.specs.Translation.{translation}
+use Rattle.stored.specs.Sheet.{headerOf, nodesOf, clausesOf, requirementOf}
+use Rattle.stored.specs.Emitted.{isEmitted, rootOf, emittedFormula, emittedTrue}
+use Rattle.stored.specs.Reached.{Reached}
 use Rattle.stored.specs.declared.WriteAnswer.{WriteAnswer}
 use Rattle.stored.specs.Output.{writeAnswer, writtenLength}
 use Rattle.translator.specs.Refusal.{translateRefusal}
@@ -19,6 +22,10 @@ pub record FormulaOf (s y : List ℕ) : Type 0 where
   pub signals : headerOf y .signals ≡ headerOf s .signals
   pub names : headerOf y .names ≡ headerOf s .names
   pub bound : headerOf y .nodes ≤ nodeBound s
+  -- it is all of what is written: the root reaches every node
+  pub reached : (i : ℕ) → i < headerOf y .nodes → Reached (nodesOf y) (rootOf y) i
+  -- the formula of the clauses that are no advice
+  pub tree : emittedFormula y ≡ translation (withoutAdvice (clausesOf s))
   -- true of exactly the lists of at least one cycle of which the requirement is
   pub agreement : (σ : Trace) → 0 < length σ → emittedTrue y σ ≡ requirementOf s σ
 

@@ -341,6 +341,27 @@ pub fn tables() -> Vec<(Case, usize)> {
     cases
 }
 
+/// Sheets that are translated: eight clauses that need three of 64 gaps, and eight that need all of
+/// 32 gaps, among them.
+pub fn translations() -> [(&'static str, Sheet); 5] {
+    let mut few = Sheet::new(1, 3);
+    few.nodes = vec![[29, 0x01, 0, 1, 0, 2]; 64];
+    few.clauses = vec![[5, 1, 0, 63, 0, 62, 0, 61, 7, 7, 7]; 8];
+    let mut all = Sheet::new(1, 3);
+    let gaps: Vec<Node> = (0..32).map(|k| all.gap(k % 3, (k + 1) % 3, 1, 2)).collect();
+    let root = gaps.into_iter().reduce(|root, gap| all.both(root, gap)).unwrap();
+    for _ in 0..8 {
+        all.triggers(Commitment, Part(root, 7), Part(root, 7), Part(root, 7));
+    }
+    [
+        ("waveforms, no names", waveforms(0)),
+        ("waveforms, 3 names", waveforms(3)),
+        ("64 nodes, 59 chops", chops()),
+        ("3 of 64 gaps, 8 clauses, 3 names", few),
+        ("32 gaps, 8 clauses, 3 names", all),
+    ]
+}
+
 /// Where the names of a table's case stand.
 pub fn places(cycles: usize) -> [usize; 3] {
     [cycles / 4, cycles / 2, cycles - 1]

@@ -5,7 +5,7 @@ use Rattle.stored.specs.Written.{NodeFits}
 use Rattle.plans.specs.Bound.{isDrawing}
 use Rattle.emission.specs.Copying.{byOthers, itself}
 use Rattle.plans.proofs.Calls.{free}
-use Rattle.emission.proofs.Copied.{node-fits}
+use Rattle.emission.proofs.Copies.{node-fits}
 use Rattle.emission.proofs.copy.copy_node.Statement.{statement}
 use Rattle.emission.proofs.copy.copy_node.Tie as tie
 

@@ -3,6 +3,7 @@ use native.Mathlib.Omega.{arith}
 use Rattle.stored.proofs.masks.field_reach.Statement.{statement}
 use Rattle.stored.proofs.masks.field_reach.Tie as tie
 use borrow.Author.Tests.{eq-eqb, ne-eqb}
+use Rattle.stored.specs.Node.{isOperand}
 use Rattle.stored.specs.Reach.{joint, fieldReach}
 
 name-mask-requires : tie.Need-name-mask-requires
@@ -26,11 +27,11 @@ entry-of-requires : tie.Need-entry-of-requires
 entry-of-requires c κs = omega arith
 
 returns-3 : tie.Need-returns-3
-unfolding fieldReach
+unfolding fieldReach isOperand
 returns-3 c = rw (ne-eqb _ _ (c .before .before .before .if1 .left), ne-eqb _ _ (c .before .before .if2 .left), c .before .if3 .taken) (c .entry-of .ensures)
 
 returns-4 : tie.Need-returns-4
-unfolding fieldReach
+unfolding fieldReach isOperand
 returns-4 c = rw (ne-eqb _ _ (c .before .before .if1 .left), ne-eqb _ _ (c .before .if2 .left), c .if3 .left)
 
 pub field-reach-spec : {M : Type 1} → statement M

@@ -1,0 +1,3 @@
+-- Laws of pruning.
+pub mod Marking
+pub mod Keeping
