@@ -7,6 +7,7 @@ mod reference;
 
 use build::hex_file;
 use command::{root, run, run_with, Ran, Scratch};
+use fasunqir::{bytes, Sheet, Trace};
 use generate::text::{typed, Flaw, TextShape};
 use generate::Random;
 use std::fs;
@@ -105,16 +106,22 @@ fn minutes_are_stored() {
     assert_eq!(ran.err, format!("fasunqir store: {said}"));
 }
 
-/// A sheet of a few clauses.
-fn small(random: &mut Random) -> TextShape {
-    let (signals, names) = (random.between(1, 4), random.below(3));
-    TextShape {
-        signals,
-        names,
+/// A sheet of a few clauses, as text and as it is read, and a short trace for it; none where the text says
+/// no sheet.
+fn small(random: &mut Random) -> Option<(Vec<u8>, Sheet, Trace)> {
+    let shape = TextShape {
+        signals: random.between(1, 4),
+        names: random.below(3),
         nodes: random.between(2, 20),
         clauses: random.between(1, 3),
         flaw: Flaw::Nothing,
-    }
+    };
+    let text = typed(random, shape).text;
+    let sheet = bytes::read_text(&text).and_then(Sheet::try_from).ok()?;
+    let cycles = random.between(1, 10);
+    let trace = generate::trace(random, sheet.signals(), cycles);
+    let trace = sheet.trace(&trace.bytes()).unwrap();
+    Some((text, sheet, trace))
 }
 
 /// Sheets as people type them with minutes, in every form of both, get the library's own line.
@@ -124,15 +131,7 @@ fn forms_make_no_difference() {
     let mut random = Random::new(77);
     let mut statuses = [0; 3];
     for _ in 0..150 {
-        let shape = small(&mut random);
-        let text = typed(&mut random, shape).text;
-        let Ok(sheet) = fasunqir::bytes::read_text(&text).and_then(fasunqir::Sheet::try_from)
-        else {
-            continue;
-        };
-        let cycles = random.between(1, 8);
-        let trace = generate::trace(&mut random, sheet.signals(), cycles);
-        let trace = sheet.trace(&trace.bytes()).unwrap();
+        let Some((text, sheet, trace)) = small(&mut random) else { continue };
         let verdict = sheet.check(&trace).unwrap();
         let hex = |bytes: &[u8]| format!("# hexadecimal\n{}\n", build::hex(bytes));
         let sheets = [
@@ -177,7 +176,7 @@ fn clauses_are_made_advice() {
 #[test]
 fn formulas_are_the_librarys() {
     for sheet in examples("sheet.hex") {
-        let formula = fasunqir::bytes::translate(&from_hex(&sheet)).unwrap();
+        let formula = bytes::translate(&from_hex(&sheet)).unwrap();
         assert_eq!(run(&["formula", &sheet]).bytes, formula, "{sheet}");
     }
     let ran = run(&["formula", "examples/paper/trace.hex"]);
@@ -224,15 +223,8 @@ fn tables_are_the_librarys() {
     let mut random = Random::new(78);
     let mut told = 0;
     for _ in 0..150 {
-        let shape = small(&mut random);
-        let text = typed(&mut random, shape).text;
-        let Ok(sheet) = fasunqir::bytes::read_text(&text).and_then(fasunqir::Sheet::try_from)
-        else {
-            continue;
-        };
-        let cycles = random.between(1, 12);
-        let trace = generate::trace(&mut random, sheet.signals(), cycles).bytes();
-        let trace = sheet.trace(&trace).unwrap();
+        let Some((text, sheet, trace)) = small(&mut random) else { continue };
+        let cycles = trace.cycles().len();
         let clause = random.below(sheet.clauses().len());
         let part = random.below(sheet.clauses()[clause].parts.len());
         let names = [0; 3].map(|_| random.below(cycles));

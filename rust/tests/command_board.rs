@@ -7,7 +7,7 @@ use fasunqir::{read_minutes, Sheet, Trace};
 use std::fs;
 use std::io::{BufRead, BufReader, Read, Write};
 use std::path::Path;
-use std::process::{Command, Stdio};
+use std::process::{Child, ChildStdin, Command, Stdio};
 
 const REPLY: &str = "examples/reply/sheet.txt";
 const PAPER: &str = "examples/paper/sheet.txt";
@@ -154,15 +154,18 @@ fn standard_input_has_the_minutes_alone() {
     assert!(two.err.starts_with("fasunqir board: it takes SHEET; "), "{}", two.err);
 }
 
+/// A board that was started, its output and what it says in our hands, and its minutes.
+fn started() -> (Child, ChildStdin) {
+    let mut board = command(&["board", PAPER]);
+    let piped = board.stdin(Stdio::piped()).stdout(Stdio::piped()).stderr(Stdio::piped());
+    let mut child = piped.spawn().unwrap();
+    let minutes = child.stdin.take().unwrap();
+    (child, minutes)
+}
+
 #[test]
 fn a_minute_is_answered_before_the_next() {
-    let mut child = command(&["board", PAPER])
-        .stdin(Stdio::piped())
-        .stdout(Stdio::piped())
-        .stderr(Stdio::piped())
-        .spawn()
-        .unwrap();
-    let mut minutes = child.stdin.take().unwrap();
+    let (mut child, mut minutes) = started();
     let mut lines = BufReader::new(child.stdout.take().unwrap()).lines();
     for (minute, line) in [
         ("-", "0  HOLDS 0"),
@@ -184,13 +187,7 @@ fn a_minute_is_answered_before_the_next() {
 
 #[test]
 fn it_ends_where_its_lines_are_not_read() {
-    let mut child = command(&["board", PAPER])
-        .stdin(Stdio::piped())
-        .stdout(Stdio::piped())
-        .stderr(Stdio::piped())
-        .spawn()
-        .unwrap();
-    let mut minutes = child.stdin.take().unwrap();
+    let (mut child, mut minutes) = started();
     let mut lines = BufReader::new(child.stdout.take().unwrap());
     minutes.write_all(b"-\n").unwrap();
     let mut line = String::new();
