@@ -64,7 +64,9 @@ impl Command {
             Command::Show => {
                 "a stored sheet as text, a trace as minutes, a formula as it is written"
             }
-            Command::Table => "the intervals, in minutes, on which a part of a clause holds",
+            Command::Table => {
+                "the intervals, in minutes, on which a part (from 1) of a clause (from 0) holds"
+            }
             Command::Formula => "the stored formula of a sheet's requirement",
         }
     }
