@@ -10,7 +10,7 @@ import os
 import re
 
 WORD = re.compile(r"[^\s(){};,.\"]+")
-DEFINED = re.compile(r"(?:unfoldable |abbrev )?(?:pub )?(?:ruleset )?([^\s(){};,.\"]+) :(?: |$)")
+DEFINED = re.compile(r" *(?:unfoldable |abbrev )?(?:pub )?(?:ruleset )?([^\s(){};,.\"]+) :(?: |$)")
 SPECS = sorted(glob.glob("crates/*/specs/*.antt"))
 PROOFS = sorted(glob.glob("crates/*/proofs/**/*.antt", recursive=True))
 
@@ -28,8 +28,8 @@ def defined(path):
                 yield name, "member", line
         elif not line.strip():
             inside = False
-        elif not line.startswith((" ", "--", "use", "pub use", "unfolding", "mod", "pub mod")):
-            inside = False
+        elif not line.lstrip().startswith(("--", "use", "pub use", "unfolding", "mod", "pub mod")):
+            inside = inside and line.startswith(" ")
             found = DEFINED.match(line)
             if found:
                 yield found.group(1), "def", line
@@ -77,7 +77,7 @@ def respelled(text, odds, members):
         new = odds.get(name)
         if new is None:
             return name
-        if "-" in name and m.start() and text[m.start() - 1] == "." and name not in members:
+        if ("-" in name or not odd(name)) and m.start() and text[m.start() - 1] == "." and name not in members:
             path = re.search(r"[^\s(){};,]*$", text[: m.start() - 1]).group(0)
             if not path.startswith("Rattle") and not path[:1].isupper():
                 return name

@@ -67,81 +67,81 @@ module _ (b : Board) (cycle : ℕ) (words : List ℕ) where
       let q : eqb (feed_refusal b cycle words) 0 ≡ false = ap (λ (x : ℕ). eqb x 0) (sym e) ∙ z in
       rw q (ap Admission.Refused e)
 
-  pub admit-sheet : (answer : SheetAnswer) (number k : ℕ) → answer ≡ sheet_answer (sheet_on b) → answer ≡ SheetAnswer.Refused k → number ≡ sheet_number answer
+  pub admit_sheet : (answer : SheetAnswer) (number k : ℕ) → answer ≡ sheet_answer (sheet_on b) → answer ≡ SheetAnswer.Refused k → number ≡ sheet_number answer
       → Admission.Refused number ≡ admission_of b cycle words
   unfolding feed_refusal board_refusal
-  admit-sheet answer number k read said e =
+  admit_sheet answer number k read said e =
       let n : number ≡ sheet_refusal (sheet_on b) = e ∙ ap sheet_number read ∙ sheet_number_lem (sheet_on b) in
       let z = (answer_refused (sheet_on b) k (sym read ∙ said)).0 in
       let first = or_first (sheet_refusal (sheet_on b)) (lowest 13 (held_right (signals_on b) b.taken b.cycles ∷ [])) z in
       refused_as number (n ∙ sym (or_first _ _ (ap (λ (x : ℕ). eqb x 0) first ∙ z) ∙ first)) (ap (λ (x : ℕ). eqb x 0) n ∙ z)
 
   module _ (h : Header) (accepted : sheet_answer (sheet_on b) ≡ Accepted h) where
-    pub signals-are : signals_on b ≡ h.signals
+    pub signals_are : signals_on b ≡ h.signals
     unfolding signals_on
-    signals-are = ap (λ (g : Header). g.signals) (answer_accepted (sheet_on b) h accepted).1
+    signals_are = ap (λ (g : Header). g.signals) (answer_accepted (sheet_on b) h accepted).1
 
     at_held : feed_refusal b cycle words ≡ or_else (lowest 13 (held_right h.signals b.taken b.cycles ∷ [])) (or_else (words_refusal words) (lowest 21 (cycle_rules b cycle)))
     unfolding feed_refusal board_refusal
     at_held =
         ap (λ (x : ℕ). or_else x (or_else (words_refusal words) (lowest 21 (cycle_rules b cycle))))
         (or_second (sheet_refusal (sheet_on b)) _ (answer_accepted (sheet_on b) h accepted).0
-        ∙ ap (λ (s : ℕ). lowest 13 (held_right s b.taken b.cycles ∷ [])) signals-are)
+        ∙ ap (λ (s : ℕ). lowest 13 (held_right s b.taken b.cycles ∷ [])) signals_are)
 
-    pub admit-held : (ok : Bool) → ok ≡ held_right h.signals b.taken b.cycles → ok ≡ false → Admission.Refused 13 ≡ admission_of b cycle words
+    pub admit_held : (ok : Bool) → ok ≡ held_right h.signals b.taken b.cycles → ok ≡ false → Admission.Refused 13 ≡ admission_of b cycle words
     unfolding lowest or_else
-    admit-held ok e f = refused_as 13 (sym (at_held ∙ rw (sym e ∙ f))) refl
+    admit_held ok e f = refused_as 13 (sym (at_held ∙ rw (sym e ∙ f))) refl
 
     module _ (ok : Bool) (held : ok ≡ held_right h.signals b.taken b.cycles) (passed : ok ≡ true) where
       at_words : feed_refusal b cycle words ≡ or_else (words_refusal words) (lowest 21 (cycle_rules b cycle))
       unfolding lowest or_else
       at_words = at_held ∙ rw (sym held ∙ passed)
 
-      pub admit-words : length words < least_words → Admission.Refused 15 ≡ admission_of b cycle words
-      admit-words l =
+      pub admit_words : length words < least_words → Admission.Refused 15 ≡ admission_of b cycle words
+      admit_words l =
           let few = words_few words l in
           refused_as 15 (sym (at_words ∙ or_first (words_refusal words) _ (ap (λ (x : ℕ). eqb x 0) few) ∙ few)) refl
 
       module _ (many : least_words ≤ length words) where
-        at-cycle : feed_refusal b cycle words ≡ lowest 21 (cycle_fits h.signals cycle ∷ ltb b.taken most_cycles ∷ [])
+        at_cycle : feed_refusal b cycle words ≡ lowest 21 (cycle_fits h.signals cycle ∷ ltb b.taken most_cycles ∷ [])
         unfolding cycle_rules
-        at-cycle =
+        at_cycle =
             at_words
             ∙ or_second (words_refusal words) _ (words_many words many)
-            ∙ ap (λ (s : ℕ). lowest 21 (cycle_fits s cycle ∷ ltb b.taken most_cycles ∷ [])) signals-are
+            ∙ ap (λ (s : ℕ). lowest 21 (cycle_fits s cycle ∷ ltb b.taken most_cycles ∷ [])) signals_are
 
-        pub admit-signals : (fits : Bool) → fits ≡ ltb cycle (2 ^ h.signals) → fits ≡ false → Admission.Refused 21 ≡ admission_of b cycle words
+        pub admit_signals : (fits : Bool) → fits ≡ ltb cycle (2 ^ h.signals) → fits ≡ false → Admission.Refused 21 ≡ admission_of b cycle words
         unfolding lowest cycle_fits
-        admit-signals fits e f = refused_as 21 (sym (at-cycle ∙ rw (sym e ∙ f))) refl
+        admit_signals fits e f = refused_as 21 (sym (at_cycle ∙ rw (sym e ∙ f))) refl
 
         module _ (fits : Bool) (small : fits ≡ ltb cycle (2 ^ h.signals)) (within : fits ≡ true) where
-          pub admit-full : most_cycles ≤ b.taken → Admission.Refused 22 ≡ admission_of b cycle words
+          pub admit_full : most_cycles ≤ b.taken → Admission.Refused 22 ≡ admission_of b cycle words
           unfolding lowest cycle_fits
-          admit-full l = refused_as 22 (sym (at-cycle ∙ rw (sym small ∙ within, le-ltb b.taken most_cycles l))) refl
+          admit_full l = refused_as 22 (sym (at_cycle ∙ rw (sym small ∙ within, le-ltb b.taken most_cycles l))) refl
 
           pub admitted : b.taken < most_cycles → Admission.Admitted h.signals ≡ admission_of b cycle words
           unfolding lowest cycle_fits admission_of pick
           admitted l =
-              let none : feed_refusal b cycle words ≡ 0 = at-cycle ∙ rw (sym small ∙ within, lt-ltb b.taken most_cycles l) in
-              rw none (ap Admission.Admitted (sym signals-are))
+              let none : feed_refusal b cycle words ≡ 0 = at_cycle ∙ rw (sym small ∙ within, lt-ltb b.taken most_cycles l) in
+              rw none (ap Admission.Admitted (sym signals_are))
 
 -- ---- what an admission says
 module _ (b : Board) (cycle : ℕ) (words : List ℕ) where
   refused≢admitted : (n s : ℕ) → Admission.Refused n ≡ Admission.Admitted s → ⊥
   refused≢admitted n s e = let z : ◌≡◌ {A = ℕ} 0 1 = cc in omega arith
 
-  pub when-admitted : (s : ℕ) → admission_of b cycle words ≡ Admission.Admitted s → (feed_refusal b cycle words ≡ 0) × (s ≡ signals_on b)
+  pub when_admitted : (s : ℕ) → admission_of b cycle words ≡ Admission.Admitted s → (feed_refusal b cycle words ≡ 0) × (s ≡ signals_on b)
   unfolding admission_of pick
-  when-admitted s e = go (eqb (feed_refusal b cycle words) 0) refl e
+  when_admitted s e = go (eqb (feed_refusal b cycle words) 0) refl e
     where
       go : (t : Bool) → eqb (feed_refusal b cycle words) 0 ≡ t → pick t (Admission.Admitted (signals_on b)) (Admission.Refused (feed_refusal b cycle words)) ≡ Admission.Admitted s
           → (feed_refusal b cycle words ≡ 0) × (s ≡ signals_on b)
       go true p q = (eqb-true (feed_refusal b cycle words) 0 p, (cc))
       go false p q = absurd (refused≢admitted (feed_refusal b cycle words) s q)
 
-  pub when-refused : (n : ℕ) → admission_of b cycle words ≡ Admission.Refused n → (eqb (feed_refusal b cycle words) 0 ≡ false) × (n ≡ feed_refusal b cycle words)
+  pub when_refused : (n : ℕ) → admission_of b cycle words ≡ Admission.Refused n → (eqb (feed_refusal b cycle words) 0 ≡ false) × (n ≡ feed_refusal b cycle words)
   unfolding admission_of pick
-  when-refused n e = go (eqb (feed_refusal b cycle words) 0) refl e
+  when_refused n e = go (eqb (feed_refusal b cycle words) 0) refl e
     where
       go : (t : Bool) → eqb (feed_refusal b cycle words) 0 ≡ t → pick t (Admission.Admitted (signals_on b)) (Admission.Refused (feed_refusal b cycle words)) ≡ Admission.Refused n
           → (eqb (feed_refusal b cycle words) 0 ≡ false) × (n ≡ feed_refusal b cycle words)

@@ -20,7 +20,7 @@ use Rattle.checker.specs.Table.{words_refusal}
 use Rattle.checker.proofs.Bounds.{lowest_small, or_small, answer_small}
 use Rattle.board.specs.declared.Board.{Board}
 use Rattle.board.specs.Board.{sheet_on, signals_on, cycles_on, held_right, board_refusal, cycle_rules, feed_refusal, check_on, feed_answer}
-use Rattle.board.proofs.Feeds.{answers-checked}
+use Rattle.board.proofs.Feeds.{answers_checked}
 
 -- refusals are numbers below 100
 pub sheet_small : (s : List ℕ) → sheet_refusal s < 100
@@ -36,9 +36,9 @@ module _ (b : Board) (cycle : ℕ) (words : List ℕ) where
       (or_small _ _ (lowest_small 15 (leb least_words (length words) ∷ []) (omega arith) (omega arith))
       (lowest_small 21 (cycle_rules b cycle) (omega arith) (omega arith)))
 
-  pub feed-small : Small (feed_answer b cycle words)
+  pub feed_small : Small (feed_answer b cycle words)
   unfolding feed_answer check_on pick
-  feed-small = go (eqb (feed_refusal b cycle words) 0)
+  feed_small = go (eqb (feed_refusal b cycle words) 0)
     where
       go : (t : Bool) → Small (pick t (check_on b (cycles_on b ++ (cycle ∷ [])) words) (Refused (feed_refusal b cycle words)))
       go true = answer_small _ _ _
@@ -48,20 +48,20 @@ module _ (b : Board) (cycle : ℕ) (words : List ℕ) where
   refused≢checked n v e = let z : ◌≡◌ {A = ℕ} 0 1 = cc in omega arith
 
   -- a refusal has a number, and a verdict has none
-  pub said-refused : (n : ℕ) → feed_answer b cycle words ≡ Refused n → (eqb (feed_refusal b cycle words) 0 ≡ false) × (n ≡ feed_refusal b cycle words)
+  pub said_refused : (n : ℕ) → feed_answer b cycle words ≡ Refused n → (eqb (feed_refusal b cycle words) 0 ≡ false) × (n ≡ feed_refusal b cycle words)
   unfolding feed_answer pick
-  said-refused n e =
+  said_refused n e =
       elim (test (eqb (feed_refusal b cycle words) 0)) [
-        | inl t ↦ absurd (refused≢checked n _ (sym e ∙ answers-checked b cycle words (eqb-true (feed_refusal b cycle words) 0 t)))
+        | inl t ↦ absurd (refused≢checked n _ (sym e ∙ answers_checked b cycle words (eqb-true (feed_refusal b cycle words) 0 t)))
         | inr f ↦ (f, number f e)
       ]
     where
       number : eqb (feed_refusal b cycle words) 0 ≡ false → feed_answer b cycle words ≡ Refused n → n ≡ feed_refusal b cycle words
       number f q = let same : Refused (feed_refusal b cycle words) ≡ Refused n = sym (rw f) ∙ q in cc
 
-  pub said-checked : (v : Verdict) → feed_answer b cycle words ≡ Checked v → feed_refusal b cycle words ≡ 0
+  pub said_checked : (v : Verdict) → feed_answer b cycle words ≡ Checked v → feed_refusal b cycle words ≡ 0
   unfolding feed_answer pick
-  said-checked v e =
+  said_checked v e =
       elim (test (eqb (feed_refusal b cycle words) 0)) [
         | inl t ↦ eqb-true (feed_refusal b cycle words) 0 t
         | inr f ↦ absurd (refused≢checked (feed_refusal b cycle words) v (sym (rw f) ∙ e))

@@ -52,16 +52,16 @@ small_more s ws w small l i h =
 -- the check on the stored trace of such cycles gives their verdict
 module _ (s : List ℕ) (ws words : List ℕ) (accepted : sheet_refusal s ≡ 0) (some : 1 ≤ length ws) (few : length ws ≤ 64)
     (small : Small (header_of s).signals ws) (enough : words_refusal words ≡ 0) where
-  pub check-passes : check_refusal s (trace_bytes (header_of s).signals ws) words ≡ 0
+  pub check_passes : check_refusal s (trace_bytes (header_of s).signals ws) words ≡ 0
   unfolding check_refusal
-  check-passes =
+  check_passes =
       or_second (sheet_refusal s) _ accepted
       ∙ or_second (trace_refusal (header_of s).signals (trace_bytes (header_of s).signals ws)) _ (trace_accepted (header_of s).signals ws some few small)
       ∙ enough
 
-  pub check-gives : check_answer s (trace_bytes (header_of s).signals ws) words ≡ Checked (told_whole (verdict (clauses_of s) ws))
+  pub check_gives : check_answer s (trace_bytes (header_of s).signals ws) words ≡ Checked (told_whole (verdict (clauses_of s) ws))
   unfolding check_answer pick
-  check-gives = rw (check-passes, trace_cycles (header_of s).signals ws)
+  check_gives = rw (check_passes, trace_cycles (header_of s).signals ws)
 
 -- a board that takes a cycle
 module _ (b : Board) (cycle : ℕ) (words : List ℕ) (none : feed_refusal b cycle words ≡ 0) where
@@ -71,17 +71,17 @@ module _ (b : Board) (cycle : ℕ) (words : List ℕ) (none : feed_refusal b cyc
   taking : Takes b cycle words
   taking = takes b cycle words none
 
-  held-few : length (cycles_on b) ≤ b.taken
+  held_few : length (cycles_on b) ≤ b.taken
   unfolding cycles_on
-  held-few = let size = length-take b.taken b.cycles in omega arith
+  held_few = let size = length-take b.taken b.cycles in omega arith
 
-  all-long : length all ≡ suc (length (cycles_on b))
-  all-long = let long = length-append (cycles_on b) (cycle ∷ []) in omega arith
+  all_long : length all ≡ suc (length (cycles_on b))
+  all_long = let long = length-append (cycles_on b) (cycle ∷ []) in omega arith
 
   held_small : Small (signals_on b) (cycles_on b)
   unfolding cycles_on
   held_small i h =
-      let less : i < b.taken = omega (arith, held-few) in
+      let less : i < b.taken = omega (arith, held_few) in
       let same = get_or-take b.taken b.cycles i 0 less in
       omega (arith, taking.held_small i less)
 
@@ -92,20 +92,20 @@ module _ (b : Board) (cycle : ℕ) (words : List ℕ) (none : feed_refusal b cyc
   passes : (more : List ℕ) → words_refusal more ≡ 0 → check_refusal (sheet_on b) (trace_bytes (signals_on b) all) more ≡ 0
   unfolding signals_on
   passes more enough =
-      check-passes (sheet_on b) all more taking.sheet_accepted (omega (arith, all-long)) (omega (arith, all-long, held-few, taking.room)) all_small enough
+      check_passes (sheet_on b) all more taking.sheet_accepted (omega (arith, all_long)) (omega (arith, all_long, held_few, taking.room)) all_small enough
 
   gives : (more : List ℕ) → words_refusal more ≡ 0 → check_on b all more ≡ Checked (told_whole (verdict (clauses_of (sheet_on b)) all))
   unfolding check_on signals_on
   gives more enough =
-      check-gives (sheet_on b) all more taking.sheet_accepted (omega (arith, all-long)) (omega (arith, all-long, held-few, taking.room)) all_small enough
+      check_gives (sheet_on b) all more taking.sheet_accepted (omega (arith, all_long)) (omega (arith, all_long, held_few, taking.room)) all_small enough
 
   answers : feed_answer b cycle words ≡ check_on b all words
   unfolding feed_answer pick
   answers = rw none
 
   -- a feed that is not refused gives a verdict
-  pub answers-checked : feed_answer b cycle words ≡ Checked (told_whole (verdict (clauses_of (sheet_on b)) all))
-  answers-checked = answers ∙ gives words taking.words_enough
+  pub answers_checked : feed_answer b cycle words ≡ Checked (told_whole (verdict (clauses_of (sheet_on b)) all))
+  answers_checked = answers ∙ gives words taking.words_enough
 
   pub next_is : next_board b cycle words ≡ with_cycle b cycle (feed_answer b cycle words)
   unfolding next_board pick
@@ -113,46 +113,46 @@ module _ (b : Board) (cycle : ℕ) (words : List ℕ) (none : feed_refusal b cyc
 
   -- where its arrays are as long as its type says
   module _ (sized : Sized b) where
-    cycles-with : take (suc b.taken) (set b.cycles b.taken cycle) ≡ all
+    cycles_with : take (suc b.taken) (set b.cycles b.taken cycle) ≡ all
     unfolding cycles_on
-    cycles-with = take-suc-set b.cycles b.taken cycle (omega (arith, sized.cycles_long, taking.room))
+    cycles_with = take-suc-set b.cycles b.taken cycle (omega (arith, sized.cycles_long, taking.room))
 
-    pub cycles-part : take (b.taken + 1 - 0) (drop 0 (set b.cycles b.taken cycle)) ≡ all
-    cycles-part = let end : b.taken + 1 - 0 ≡ suc b.taken = omega arith in rw end cycles-with
+    pub cycles_part : take (b.taken + 1 - 0) (drop 0 (set b.cycles b.taken cycle)) ≡ all
+    cycles_part = let end : b.taken + 1 - 0 ≡ suc b.taken = omega arith in rw end cycles_with
 
-    next-sheet : (next_board b cycle words).sheet ≡ b.sheet
+    next_sheet : (next_board b cycle words).sheet ≡ b.sheet
     unfolding with_cycle
-    next-sheet = ap (λ (r : Board). r.sheet) next_is
+    next_sheet = ap (λ (r : Board). r.sheet) next_is
 
-    next-cycles : cycles_on (next_board b cycle words) ≡ all
+    next_cycles : cycles_on (next_board b cycle words) ≡ all
     unfolding with_cycle cycles_on
-    next-cycles = ap cycles_on next_is ∙ cycles-with
+    next_cycles = ap cycles_on next_is ∙ cycles_with
 
-    next-sized : Sized (next_board b cycle words)
+    next_sized : Sized (next_board b cycle words)
     unfolding with_cycle
-    next-sized =
+    next_sized =
         record {
-          sheet_long = ap length next-sheet ∙ sized.sheet_long;
+          sheet_long = ap length next_sheet ∙ sized.sheet_long;
           cycles_long =
               ap (λ (r : Board). length r.cycles) next_is ∙ length-set b.cycles b.taken cycle ∙ sized.cycles_long;
         }
 
     -- the next board shows its verdict
-    next-shows : Shows (next_board b cycle words)
+    next_shows : Shows (next_board b cycle words)
     unfolding with_cycle check_on signals_on sheet_on verdict_on shown_of
-    next-shows =
+    next_shows =
         let r = next_board b cycle words in
         let same : verdict_on r ≡ told_whole (verdict (clauses_of (sheet_on b)) (all)) =
-        ap₂ (λ (bytes ws : List ℕ). told_whole (verdict (clauses_of (sheet_of bytes)) ws)) next-sheet next-cycles
+        ap₂ (λ (bytes ws : List ℕ). told_whole (verdict (clauses_of (sheet_of bytes)) ws)) next_sheet next_cycles
         in
         record {
           checked = λ more enough.
-              ap₂ (λ (bytes ws : List ℕ). check_answer (sheet_of bytes) (trace_bytes (header_of (sheet_of bytes)).signals ws) more) next-sheet next-cycles
+              ap₂ (λ (bytes ws : List ℕ). check_answer (sheet_of bytes) (trace_bytes (header_of (sheet_of bytes)).signals ws) more) next_sheet next_cycles
               ∙ gives more enough
               ∙ ap Checked (sym same);
           given =
               ap (λ (x : Board). x.verdict) next_is
-              ∙ ap shown_of (answers-checked)
+              ∙ ap shown_of (answers_checked)
               ∙ ap Given (sym same);
         }
 
@@ -171,15 +171,15 @@ module _ (b : Board) (cycle : ℕ) (words : List ℕ) (none : feed_refusal b cyc
 
 -- ---- a board that is refused
 module _ (b : Board) (cycle : ℕ) (words : List ℕ) (refused : eqb (feed_refusal b cycle words) 0 ≡ false) where
-  pub next-same : next_board b cycle words ≡ b
+  pub next_same : next_board b cycle words ≡ b
   unfolding next_board pick
-  next-same = rw refused
+  next_same = rw refused
 
   -- what `feed` hands back
-  pub fed-refused : (number : ℕ) → number ≡ feed_refusal b cycle words
+  pub fed_refused : (number : ℕ) → number ≡ feed_refusal b cycle words
       → (b ≡ next_board b cycle words) × ((Refused number ≡ feed_answer b cycle words) × (words ≡ words_after (feed_refusal b cycle words) words))
   unfolding feed_answer words_after pick
-  fed-refused number e = (sym next-same, (rw refused (ap Refused e), rw refused))
+  fed_refused number e = (sym next_same, (rw refused (ap Refused e), rw refused))
 
 -- a feed's result is the same over as many words
 module _ (b : Board) (cycle : ℕ) (words more : List ℕ) (same : length words ≡ length more) where
@@ -187,44 +187,44 @@ module _ (b : Board) (cycle : ℕ) (words more : List ℕ) (same : length words 
   unfolding words_refusal
   words_same = rw same
 
-  pub refusal-same : feed_refusal b cycle words ≡ feed_refusal b cycle more
+  pub refusal_same : feed_refusal b cycle words ≡ feed_refusal b cycle more
   unfolding feed_refusal
-  refusal-same = rw words_same
+  refusal_same = rw words_same
 
-  pub next-over : next_board b cycle words ≡ next_board b cycle more
+  pub next_over_lem : next_board b cycle words ≡ next_board b cycle more
   unfolding next_board feed_answer check_on check_answer check_refusal
-  next-over = rw (refusal-same, words_same)
+  next_over_lem = rw (refusal_same, words_same)
 
-  pub answer-over : feed_answer b cycle words ≡ feed_answer b cycle more
+  pub answer_over : feed_answer b cycle words ≡ feed_answer b cycle more
   unfolding feed_answer check_on check_answer check_refusal
-  answer-over = rw (refusal-same, words_same)
+  answer_over = rw (refusal_same, words_same)
 
 -- the verdict on a board is never looked at
 module _ (b : Board) (shown : Shown) (cycle : ℕ) (words : List ℕ) where
   abbrev pub showing : Board
   showing = record { sheet = b.sheet; cycles = b.cycles; taken = b.taken; verdict = shown }
 
-  pub refusal-unseen : feed_refusal showing cycle words ≡ feed_refusal b cycle words
+  pub refusal_unseen : feed_refusal showing cycle words ≡ feed_refusal b cycle words
   unfolding feed_refusal board_refusal cycle_rules signals_on sheet_on
-  refusal-unseen = refl
+  refusal_unseen = refl
 
-  pub answer-unseen : feed_answer showing cycle words ≡ feed_answer b cycle words
+  pub answer_unseen : feed_answer showing cycle words ≡ feed_answer b cycle words
   unfolding feed_answer feed_refusal board_refusal cycle_rules check_on signals_on sheet_on cycles_on
-  answer-unseen = refl
+  answer_unseen = refl
 
-  pub next-unseen : feed_refusal b cycle words ≡ 0 → next_board showing cycle words ≡ next_board b cycle words
+  pub next_unseen : feed_refusal b cycle words ≡ 0 → next_board showing cycle words ≡ next_board b cycle words
   unfolding with_cycle
-  next-unseen e =
-      next_is showing cycle words (refusal-unseen ∙ e)
-      ∙ ap (with_cycle b cycle) answer-unseen
+  next_unseen e =
+      next_is showing cycle words (refusal_unseen ∙ e)
+      ∙ ap (with_cycle b cycle) answer_unseen
       ∙ sym (next_is b cycle words e)
 
 -- a board's arrays keep their lengths
 sized_more : (b : Board) (cycle : ℕ) (words : List ℕ) → Sized b → Sized (next_board b cycle words)
 sized_more b cycle words sized =
     elim (test (eqb (feed_refusal b cycle words) 0)) [
-      | inl e ↦ next-sized b cycle words (eqb-true (feed_refusal b cycle words) 0 e) sized
-      | inr e ↦ subst Sized (sym (next-same b cycle words e)) sized
+      | inl e ↦ next_sized b cycle words (eqb-true (feed_refusal b cycle words) 0 e) sized
+      | inr e ↦ subst Sized (sym (next_same b cycle words e)) sized
     ]
 
 -- ---- a list of feeds
@@ -270,59 +270,59 @@ module _ (b : Board) (feeds : List Feed) (r : Board) (f : Feed) (told : Told b f
       taken_more b feeds f
       ∙ ap (λ (x : Board). taken_from b feeds ++ kept (feed_refusal x f.cycle f.words) f.cycle []) (sym told.after)
 
-  last-after : next_board r f.cycle f.words ≡ board_after b (feeds ++ (f ∷ []))
+  last_after : next_board r f.cycle f.words ≡ board_after b (feeds ++ (f ∷ []))
   unfolding board_after
-  last-after = ap (λ (x : Board). next_board x f.cycle f.words) told.after ∙ sym (after_append b feeds (f ∷ []))
+  last_after = ap (λ (x : Board). next_board x f.cycle f.words) told.after ∙ sym (after_append b feeds (f ∷ []))
 
-  when-refused : eqb number 0 ≡ false → Told b (feeds ++ (f ∷ [])) (next_board r f.cycle f.words)
+  when_refused : eqb number 0 ≡ false → Told b (feeds ++ (f ∷ [])) (next_board r f.cycle f.words)
   unfolding number kept pick
-  when-refused e =
-      let same = next-same r f.cycle f.words e in
+  when_refused e =
+      let same = next_same r f.cycle f.words e in
       let taken : taken_from b (feeds ++ (f ∷ [])) ≡ taken_from b feeds = last_taken ∙ rw e (append-nil (taken_from b feeds)) in
       record {
-        after = last-after;
+        after = last_after;
         sheet = ap (λ (x : Board). x.sheet) same ∙ told.sheet;
         cycles = ap cycles_on same ∙ told.cycles ∙ ap (λ (l : List ℕ). cycles_on b ++ l) (sym taken);
         none = λ n. same ∙ told.none (sym taken ∙ n);
         some = λ h. subst Shows (sym same) (told.some (subst (λ (l : List ℕ). 0 < length l) taken h));
       }
 
-  when-taken : eqb number 0 ≡ true → Told b (feeds ++ (f ∷ [])) (next_board r f.cycle f.words)
+  when_taken : eqb number 0 ≡ true → Told b (feeds ++ (f ∷ [])) (next_board r f.cycle f.words)
   unfolding number kept pick
-  when-taken e =
+  when_taken e =
       let zero_number = eqb-true (feed_refusal r f.cycle f.words) 0 e in
       let taken : taken_from b (feeds ++ (f ∷ [])) ≡ taken_from b feeds ++ (f.cycle ∷ []) = last_taken ∙ rw e in
       let long = ap length taken ∙ length-append (taken_from b feeds) (f.cycle ∷ []) in
       record {
-        after = last-after;
-        sheet = next-sheet r f.cycle f.words zero_number sized ∙ told.sheet;
+        after = last_after;
+        sheet = next_sheet r f.cycle f.words zero_number sized ∙ told.sheet;
         cycles =
-            next-cycles r f.cycle f.words zero_number sized
+            next_cycles r f.cycle f.words zero_number sized
             ∙ ap (λ (l : List ℕ). l ++ (f.cycle ∷ [])) told.cycles
             ∙ append_assoc (cycles_on b) (taken_from b feeds) (f.cycle ∷ [])
             ∙ ap (λ (l : List ℕ). cycles_on b ++ l) (sym taken);
         none = λ n. let none-long = ap length n in absurd (omega arith);
-        some = λ h. next-shows r f.cycle f.words zero_number sized;
+        some = λ h. next_shows r f.cycle f.words zero_number sized;
       }
 
   pub told_more : Told b (feeds ++ (f ∷ [])) (next_board r f.cycle f.words)
   told_more =
       elim (test (eqb number 0)) [
-        | inl e ↦ when-taken e
-        | inr e ↦ when-refused e
+        | inl e ↦ when_taken e
+        | inr e ↦ when_refused e
       ]
 
   -- what words hold that were lent to all the feeds
   module _ (words : List ℕ) (long : length words ≡ length f.words) (left : words ≡ words_left (taken_from b feeds) f.words) where
-    words-refused : eqb number 0 ≡ false → words_after number words ≡ words_left (taken_from b (feeds ++ (f ∷ []))) f.words
+    words_refused : eqb number 0 ≡ false → words_after number words ≡ words_left (taken_from b (feeds ++ (f ∷ []))) f.words
     unfolding kept words_after pick
-    words-refused e =
+    words_refused e =
         let taken : taken_from b (feeds ++ (f ∷ [])) ≡ taken_from b feeds = last_taken ∙ rw e (append-nil (taken_from b feeds)) in
         rw e (left ∙ ap (λ (l : List ℕ). words_left l f.words) (sym taken))
 
-    words-taken : eqb number 0 ≡ true → words_after number words ≡ words_left (taken_from b (feeds ++ (f ∷ []))) f.words
+    words_taken : eqb number 0 ≡ true → words_after number words ≡ words_left (taken_from b (feeds ++ (f ∷ []))) f.words
     unfolding kept words_after words_left pick
-    words-taken e =
+    words_taken e =
         let taken : taken_from b (feeds ++ (f ∷ [])) ≡ taken_from b feeds ++ (f.cycle ∷ []) = last_taken ∙ rw e in
         let many = ap length taken ∙ length-append (taken_from b feeds) (f.cycle ∷ []) in
         rw (e, ne_eqb (length (taken_from b (feeds ++ (f ∷ [])))) 0 (λ z. omega arith), long)
@@ -330,10 +330,10 @@ module _ (b : Board) (feeds : List Feed) (r : Board) (f : Feed) (told : Told b f
     pub words_more : words_after (feed_refusal r f.cycle words) words ≡ words_left (taken_from b (feeds ++ (f ∷ []))) f.words
     unfolding number
     words_more =
-        ap (λ (n : ℕ). words_after n words) (refusal-same r f.cycle words f.words long)
+        ap (λ (n : ℕ). words_after n words) (refusal_same r f.cycle words f.words long)
         ∙ elim (test (eqb number 0)) [
-          | inl e ↦ words-taken e
-          | inr e ↦ words-refused e
+          | inl e ↦ words_taken e
+          | inr e ↦ words_refused e
         ]
 
 -- after any feeds of a board to which others were fed before
@@ -387,7 +387,7 @@ feeding_more b ws cycles i words r words' r' f h er ew =
     let feeds = lent ws (take i cycles) in
     let long : length words ≡ length ws = ap length f.left ∙ left_long (taken_from b feeds) ws in
     let more = lent_more ws cycles i h in
-    let next : r' ≡ next_board r cycle ws = er ∙ next-over r cycle words ws long in
+    let next : r' ≡ next_board r cycle ws = er ∙ next_over_lem r cycle words ws long in
     record {
       bound = omega arith;
       sized = subst Sized (sym next) (sized_more r cycle ws f.sized);

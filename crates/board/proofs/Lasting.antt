@@ -9,8 +9,8 @@ use Rattle.semantics.specs.Clause.{fails}
 use Rattle.semantics.specs.Verdict as semantics
 use Rattle.semantics.specs.Verdict.{verdict}
 use Rattle.semantics.specs.Lasting.{Lasting}
-use Rattle.semantics.proofs.Longer.{fails-longer}
-use Rattle.semantics.proofs.Lasting.{verdict-longer}
+use Rattle.semantics.proofs.Longer.{fails_longer}
+use Rattle.semantics.proofs.Lasting.{verdict_longer}
 use Rattle.stored.specs.Sheet.{clauses_of}
 use Rattle.checker.specs.Check as check
 use Rattle.checker.specs.Check.{told_whole}
@@ -39,26 +39,26 @@ shown_lasting b r v w eb er lasts = rw (eb, er, meant_whole_lem v, meant_whole_l
 
 module _ (b : Board) (feeds : List Feed) (r : Board) (tells : Told b feeds r) where
   -- a board that shows its verdict goes on showing it
-  still-shows : Shows b → Shows r
-  still-shows shows = go (taken_from b feeds) refl
+  still_shows : Shows b → Shows r
+  still_shows shows = go (taken_from b feeds) refl
     where
       go : (taken : List ℕ) → taken_from b feeds ≡ taken → Shows r
       go [] e = subst Shows (sym (tells.none e)) shows
       go (x ∷ taken) e = tells.some (subst (λ (l : List ℕ). 0 < length l) (sym e) (omega arith))
 
   -- on the same sheet, and on more cycles
-  verdict-then : verdict_on r ≡ told_whole (verdict (clauses_of (sheet_on b)) (cycles_on b ++ taken_from b feeds))
+  verdict_then : verdict_on r ≡ told_whole (verdict (clauses_of (sheet_on b)) (cycles_on b ++ taken_from b feeds))
   unfolding verdict_on sheet_on
-  verdict-then = ap₂ (λ (bytes ws : List ℕ). told_whole (verdict (clauses_of (sheet_of bytes)) ws)) tells.sheet tells.cycles
+  verdict_then = ap₂ (λ (bytes ws : List ℕ). told_whole (verdict (clauses_of (sheet_of bytes)) ws)) tells.sheet tells.cycles
 
   pub unhealed : Unhealed b r
   unfolding verdict_on
   unhealed =
       record {
-        clauses = λ c h. subst (λ (ws : List ℕ). fails c ws ≡ true) (sym tells.cycles) (fails-longer (cycles_on b) (taken_from b feeds) c h);
+        clauses = λ c h. subst (λ (ws : List ℕ). fails c ws ≡ true) (sym tells.cycles) (fails_longer (cycles_on b) (taken_from b feeds) c h);
         verdict = λ shows.
-            shown_lasting b r _ _ shows.given ((still-shows shows).given ∙ ap Given verdict-then)
-            (verdict-longer (cycles_on b) (taken_from b feeds) (clauses_of (sheet_on b)));
+            shown_lasting b r _ _ shows.given ((still_shows shows).given ∙ ap Given verdict_then)
+            (verdict_longer (cycles_on b) (taken_from b feeds) (clauses_of (sheet_on b)));
       }
 
 -- the board after one feed

@@ -1,4 +1,6 @@
 // The board: a sheet, the cycles of an open offer so far, and the verdict on them. One call feeds a cycle and hands the board back.
+#![tactic(auto)]
+
 use checker::check::{Answer, Verdict};
 use stored::layout::{MOST_CYCLES, MOST_SHEET};
 

@@ -21,7 +21,7 @@ use Rattle.stored.specs.Bytes.{lowest}
 use Rattle.stored.specs.Sheet.{header_of, nodes_of, clauses_of, clause_in, sheet_refusal, sheet_rules}
 use Rattle.traces.specs.Trace.{cycles_of, cycle_count, trace_refusal, trace_rules}
 use Rattle.stored.specs.Tree.{pick}
-use Rattle.stored.proofs.Rules.{length-inOrder, lowest_law}
+use Rattle.stored.proofs.Rules.{length_in_order, lowest_law}
 use Rattle.stored.proofs.Accepted.{opened}
 use Rattle.traces.proofs.Accepted.{trace_opened, cycles_count}
 use Rattle.checker.specs.declared.check.Answer.TheVariants.{Refused, Checked}
@@ -70,9 +70,9 @@ module _ (cs : List Clause) (σ : Trace) (few : length cs ≤ 8) (short : length
       (numbered commitment p.clause w.commitment_of w.failing, omega (arith, at.i_cycle), omega (arith, at.j_cycle), omega (arith, at.k_cycle))
   finding_small semantics.Holds e = omega arith
 
-  verdict-small : SmallVerdict (told_whole (verdict cs σ))
+  verdict_small : SmallVerdict (told_whole (verdict cs σ))
   unfolding told_whole verdict
-  verdict-small = (finding_small (finding_of cs σ) refl, lt_of_lt_of_le (advice_small cs σ) (pow_mono few))
+  verdict_small = (finding_small (finding_of cs σ) refl, lt_of_lt_of_le (advice_small cs σ) (pow_mono few))
 
 -- ---- an answer's
 pub or_zero : (a b : ℕ) → or_else a b ≡ 0 → (a ≡ 0) × (b ≡ 0)
@@ -95,11 +95,11 @@ unfolding check_refusal clauses_of
 accepted_small s t words e =
     let sheet = or_zero (sheet_refusal s) (or_else (trace_refusal (header_of s).signals t) (words_refusal words)) e in
     let trace = or_zero (trace_refusal (header_of s).signals t) (words_refusal words) sheet.1 in
-    let many = length-inOrder (header_of s).clauses (clause_in s) in
+    let many = length_in_order (header_of s).clauses (clause_in s) in
     let few = (opened s sheet.0).in_range.few_clauses in
     let cycles = cycles_count t in
     let most = (trace_opened (header_of s).signals t trace.0).few_cycles in
-    verdict-small (clauses_of s) (cycles_of t) (omega arith) (omega arith)
+    verdict_small (clauses_of s) (cycles_of t) (omega arith) (omega arith)
 
 pub answer_small : (s t words : List ℕ) → Small (check_answer s t words)
 unfolding check_answer pick

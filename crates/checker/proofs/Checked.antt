@@ -37,7 +37,7 @@ use Rattle.places.specs.Task.{task_of}
 use Rattle.places.specs.Laid.{IsFormula, Formulas}
 use Rattle.checker.specs.Check.{told_whole, check_refusal, check_answer}
 use Rattle.checker.specs.Clauses.{Sound, Sounds, clause_at}
-use Rattle.checker.proofs.Opened.{cycled-as, told-accepted}
+use Rattle.checker.proofs.Opened.{cycled_as, told_accepted}
 
 -- ---- the lowest number
 module _ (s t words : List ℕ) where
@@ -50,61 +50,61 @@ module _ (s t words : List ℕ) where
       let q : eqb (check_refusal s t words) 0 ≡ false = ap (λ (x : ℕ). eqb x 0) (sym e) ∙ z in
       (rw q (ap Refused e), rw q)
 
-  answered-as : (v : Verdict) (after : List ℕ) → check_refusal s t words ≡ 0 → v ≡ told_whole (verdict (clauses_of s) (cycles_of t)) → after ≡ replicate (length words) 0
+  answered_as : (v : Verdict) (after : List ℕ) → check_refusal s t words ≡ 0 → v ≡ told_whole (verdict (clauses_of s) (cycles_of t)) → after ≡ replicate (length words) 0
       → Answered (Checked v) after
   unfolding check_answer words_after pick
-  answered-as v after e f g =
+  answered_as v after e f g =
       let q : eqb (check_refusal s t words) 0 ≡ true = ap (λ (x : ℕ). eqb x 0) e in
       (rw q (ap Checked f), rw q g)
 
-  pub check-sheet : (answer : SheetAnswer) (number k : ℕ) → answer ≡ sheet_answer s → answer ≡ SheetAnswer.Refused k → number ≡ sheet_number answer
+  pub check_sheet : (answer : SheetAnswer) (number k : ℕ) → answer ≡ sheet_answer s → answer ≡ SheetAnswer.Refused k → number ≡ sheet_number answer
       → Answered (Refused number) words
   unfolding check_refusal or_else
-  check-sheet answer number k read said e =
+  check_sheet answer number k read said e =
       let n : number ≡ sheet_refusal s = e ∙ ap sheet_number read ∙ sheet_number_lem s in
       let z = (answer_refused s k (sym read ∙ said)).0 in
       refused_as number (n ∙ rw z) (ap (λ (x : ℕ). eqb x 0) n ∙ z)
 
   module _ (h : Header) (accepted : sheet_answer s ≡ Accepted h) where
-    no-sheet : sheet_refusal s ≡ 0
-    no-sheet = (answer_accepted s h accepted).0
+    no_sheet : sheet_refusal s ≡ 0
+    no_sheet = (answer_accepted s h accepted).0
 
     same : header_of s ≡ h
     same = (answer_accepted s h accepted).1
 
-    at-trace : check_refusal s t words ≡ or_else (trace_refusal (header_of s).signals t) (words_refusal words)
+    at_trace : check_refusal s t words ≡ or_else (trace_refusal (header_of s).signals t) (words_refusal words)
     unfolding check_refusal or_else
-    at-trace = rw no-sheet
+    at_trace = rw no_sheet
 
-    pub check-trace : (answer : TraceAnswer) (number k : ℕ) → answer ≡ trace_answer h.signals t → answer ≡ TraceAnswer.Refused k → number ≡ trace_number answer
+    pub check_trace : (answer : TraceAnswer) (number k : ℕ) → answer ≡ trace_answer h.signals t → answer ≡ TraceAnswer.Refused k → number ≡ trace_number answer
         → Answered (Refused number) words
     unfolding or_else
-    check-trace answer number k read said e =
+    check_trace answer number k read said e =
         let turn : trace_answer h.signals t ≡ trace_answer (header_of s).signals t = ap (λ (g : Header). trace_answer g.signals t) (sym same) in
         let n : number ≡ trace_refusal (header_of s).signals t = e ∙ ap trace_number (read ∙ turn) ∙ trace_number_lem (header_of s).signals t in
         let z = (cycles_refused (header_of s).signals t k (sym (read ∙ turn) ∙ said)).0 in
-        refused_as number (n ∙ sym (at-trace ∙ rw z)) (ap (λ (x : ℕ). eqb x 0) n ∙ z)
+        refused_as number (n ∙ sym (at_trace ∙ rw z)) (ap (λ (x : ℕ). eqb x 0) n ∙ z)
 
     module _ (n : ℕ) (cycled : trace_answer h.signals t ≡ Cycles n) where
-      no-trace : trace_refusal (header_of s).signals t ≡ 0
-      no-trace = (cycles_accepted (header_of s).signals t n (cycled-as s t h n accepted cycled)).0
+      no_trace : trace_refusal (header_of s).signals t ≡ 0
+      no_trace = (cycles_accepted (header_of s).signals t n (cycled_as s t h n accepted cycled)).0
 
       at_words : check_refusal s t words ≡ words_refusal words
       unfolding or_else
-      at_words = at-trace ∙ rw no-trace
+      at_words = at_trace ∙ rw no_trace
 
       pub check_words : length words < least_words → Answered (Refused 15) words
       unfolding words_refusal lowest
       check_words l = refused_as 15 (sym (at_words ∙ rw (lt-leb least_words (length words) l))) refl
 
-      pub check-verdict : (nodes clauses columns after : List ℕ) (v : Verdict) → least_words ≤ length words → nodes ≡ node_part s → clauses ≡ clause_part s
+      pub check_verdict : (nodes clauses columns after : List ℕ) (v : Verdict) → least_words ≤ length words → nodes ≡ node_part s → clauses ≡ clause_part s
           → columns ≡ columns_of h.signals n t → v ≡ told_whole (verdict (in_order h.clauses (clause_at nodes clauses)) (trace_of n columns)) → after ≡ replicate (length words) 0
           → Answered (Checked v) after
       unfolding words_refusal lowest clauses_of clause_in nodes_of stored_of clause_at
-      check-verdict nodes clauses columns after v l en ec er ev ew =
-          answered-as v after (at_words ∙ rw (le-leb least_words (length words) l))
+      check_verdict nodes clauses columns after v l en ec er ev ew =
+          answered_as v after (at_words ∙ rw (le-leb least_words (length words) l))
           (ev
-          ∙ ap (λ (σ : Trace). told_whole (verdict (in_order h.clauses (λ k. clause_of (node_at nodes) (stored_at clauses k))) σ)) (told-accepted s t h n accepted cycled columns er)
+          ∙ ap (λ (σ : Trace). told_whole (verdict (in_order h.clauses (λ k. clause_of (node_at nodes) (stored_at clauses k))) σ)) (told_accepted s t h n accepted cycled columns er)
           ∙ ap (λ (x : List ℕ). told_whole (verdict (in_order h.clauses (λ k. clause_of (node_at x) (stored_at clauses k))) (cycles_of t))) en
           ∙ ap (λ (x : List ℕ). told_whole (verdict (in_order h.clauses (λ k. clause_of (node_at (node_part s)) (stored_at x k))) (cycles_of t))) ec
           ∙ ap (λ (g : Header). told_whole (verdict (in_order g.clauses (λ k. clause_of (node_at (node_part s)) (stored_at (clause_part s) k))) (cycles_of t))) (sym same))

@@ -17,7 +17,7 @@ use Rattle.stored.specs.Reach.{reach_table}
 use Rattle.traces.proofs.Columns.{told_length}
 use Rattle.tables.specs.Table.{standing, Inside, Tables}
 use Rattle.tables.specs.Ready.{Given, with_names}
-use Rattle.tables.proofs.Columns.{names_columns, names-told}
+use Rattle.tables.proofs.Columns.{names_columns, names_told}
 use Rattle.tables.proofs.Fills.{given_other}
 use Rattle.places.specs.declared.task.Task.{Task}
 use Rattle.places.specs.declared.walk.Job.{Job}
@@ -49,7 +49,7 @@ first_laid {columns = columns} {words' = words'} {n = n} g r e t same =
     record {
       ready = rw e (record { given = given_other _ words' (names_columns (0 ∷ 0 ∷ 0 ∷ []) g.few_cycles (all_first g.some_cycles) g.columned) same g; reached = r });
       tables = t;
-      told = rw e (names-told columns (0 ∷ 0 ∷ 0 ∷ []) g.columned.all n);
+      told = rw e (names_told columns (0 ∷ 0 ∷ 0 ∷ []) g.columned.all n);
     }
 
 -- a verdict of the finding and the advice over the trace that was told before
@@ -62,8 +62,8 @@ verdict_again {columns = columns} {n = n} l l' cs a f =
     ∙ ap (λ (τ : Trace). told_whole (verdict cs τ)) l.told
 
 module _ {nodes reach columns words : List ℕ} {count n : ℕ} (l : Laid nodes count n reach (trace_of n columns) columns words) where
-  pub short-trace : length (trace_of n columns) ≤ 64
-  short-trace = let few = l.ready.given.few_cycles in let long = told_length n columns in omega arith
+  pub short_trace : length (trace_of n columns) ≤ 64
+  short_trace = let few = l.ready.given.few_cycles in let long = told_length n columns in omega arith
 
   module _ (d : StoredClause) (task : Task) (e : task ≡ task_of d) (s : Sound nodes count d) where
     abbrev start : Spot
@@ -73,8 +73,8 @@ module _ {nodes reach columns words : List ℕ} {count n : ℕ} (l : Laid nodes 
     looking = record { task = task; count = count; n = n; answering = false; names = task.quantified }
 
     -- the walk starts with every name on cycle 0, and looks everywhere
-    pub clause-walkable : Walkable start looking places nodes reach columns words
-    clause-walkable =
+    pub clause_walkable : Walkable start looking places nodes reach columns words
+    clause_walkable =
         record {
           laid = l;
           formulas = subst (λ (t : Task). Formulas nodes count t) (sym e) s.formulas;
@@ -84,10 +84,10 @@ module _ {nodes reach columns words : List ℕ} {count n : ℕ} (l : Laid nodes 
           few = omega arith;
         }
 
-    pub clause-least : (r : ℕ) → IsLeast places (λ y. over_last 3 (bit task.quantified) n (standing (0 ∷ 0 ∷ 0 ∷ [])) (missed_on nodes (trace_of n columns) n task y)) r
+    pub clause_least : (r : ℕ) → IsLeast places (λ y. over_last 3 (bit task.quantified) n (standing (0 ∷ 0 ∷ 0 ∷ [])) (missed_on nodes (trace_of n columns) n task y)) r
         → IsLeast places (numbered (length (trace_of n columns)) (breaks (clause_of (node_at nodes) d) (trace_of n columns))) r
     unfolding over_last missed_on some_placement
-    clause-least r least =
+    clause_least r least =
         let some = l.ready.given.some_cycles in
         let long = told_length n columns in
         task_least (node_at nodes) d (trace_of n columns) (n - 1) places r (record { first = s.first_mask; second = s.second_mask; third = s.third_mask })

@@ -19,10 +19,10 @@ use Rattle.traces.specs.Trace.{cycle_count, cycles_of, trace_answer}
 use Rattle.stored.proofs.Rules.{every_all}
 use Rattle.stored.proofs.Accepted.{Opened, open_answer_lem, answer_accepted, length_nodes}
 use Rattle.traces.proofs.Accepted.{TraceOpened, trace_opened, cycles_accepted}
-use Rattle.traces.proofs.Columns.{told_length, are-columns, columns-tell}
+use Rattle.traces.proofs.Columns.{told_length, are_columns, columns_tell}
 use Rattle.stored.specs.Reach.{reach_table}
 use Rattle.stored.specs.Tree.{earlier, formula_at}
-use Rattle.stored.proofs.Made.{earlier-at, earlier-not}
+use Rattle.stored.proofs.Made.{earlier_at, earlier_not}
 use Rattle.semantics.specs.Formula.{holds}
 use Rattle.semantics.specs.Placement.{marks}
 use Rattle.semantics.proofs.Tests.{test}
@@ -36,10 +36,10 @@ use Rattle.tables.proofs.Moves.{table_placed}
 use Rattle.checker.specs.Table.{table_of}
 
 module _ (s t : List ℕ) (o : Opened s) (r : TraceOpened (header_of s).signals t) where
-  pub given-opened : (words : List ℕ) → least_words ≤ length words
+  pub given_opened : (words : List ℕ) → least_words ≤ length words
       → Given (node_part s) (header_of s).nodes (cycle_count t) (columns_of (header_of s).signals (cycle_count t) t) words
   unfolding nodes_of node_right
-  given-opened words l =
+  given_opened words l =
       let few = o.in_range.few_nodes in
       let long = length_nodes s o in
       record {
@@ -53,52 +53,52 @@ module _ (s t : List ℕ) (o : Opened s) (r : TraceOpened (header_of s).signals 
         operands = every_all (header_of s).nodes (operands_right requirement_sorts (node_at (node_part s))) o.nodes_kept.operands_kept;
         some_cycles = r.some_cycles;
         few_cycles = r.few_cycles;
-        columned = are-columns (header_of s).signals (cycle_count t) t o.in_range.few_signals;
+        columned = are_columns (header_of s).signals (cycle_count t) t o.in_range.few_signals;
         words_long = omega arith;
       }
 
   -- what its columns tell is the trace
-  pub told-opened : trace_of (cycle_count t) (columns_of (header_of s).signals (cycle_count t) t) ≡ cycles_of t
-  told-opened = columns-tell (header_of s).signals (cycle_count t) t o.in_range.few_signals refl r
+  pub told_opened : trace_of (cycle_count t) (columns_of (header_of s).signals (cycle_count t) t) ≡ cycles_of t
+  told_opened = columns_tell (header_of s).signals (cycle_count t) t o.in_range.few_signals refl r
 
 -- the same of an accepted header and of how many cycles were counted
 module _ (s t : List ℕ) (h : Header) (n : ℕ) (accepted : sheet_answer s ≡ Accepted h) (cycled : trace_answer h.signals t ≡ Cycles n) where
   same : header_of s ≡ h
   same = (answer_accepted s h accepted).1
 
-  pub cycled-as : trace_answer (header_of s).signals t ≡ Cycles n
-  cycled-as = ap (λ (g : Header). trace_answer g.signals t) same ∙ cycled
+  pub cycled_as : trace_answer (header_of s).signals t ≡ Cycles n
+  cycled_as = ap (λ (g : Header). trace_answer g.signals t) same ∙ cycled
 
   many : cycle_count t ≡ n
-  many = (cycles_accepted (header_of s).signals t n cycled-as).1
+  many = (cycles_accepted (header_of s).signals t n cycled_as).1
 
-  trace-is : TraceOpened (header_of s).signals t
-  trace-is = trace_opened (header_of s).signals t (cycles_accepted (header_of s).signals t n cycled-as).0
+  trace_is : TraceOpened (header_of s).signals t
+  trace_is = trace_opened (header_of s).signals t (cycles_accepted (header_of s).signals t n cycled_as).0
 
-  pub trace-fits : 2 * n + 4 ≤ length t
-  trace-fits = let long = trace-is.trace_long in let e = many in omega arith
+  pub trace_fits : 2 * n + 4 ≤ length t
+  trace_fits = let long = trace_is.trace_long in let e = many in omega arith
 
   pub few_signals : h.signals ≤ 16
   few_signals = subst (λ (g : Header). g.signals ≤ 16) same (open_answer_lem s h accepted).in_range.few_signals
 
   pub few_cycles : n ≤ 64
-  few_cycles = subst (λ (k : ℕ). k ≤ 64) many trace-is.few_cycles
+  few_cycles = subst (λ (k : ℕ). k ≤ 64) many trace_is.few_cycles
 
   module _ (columns : List ℕ) (read : columns ≡ columns_of h.signals n t) where
-    pub given-accepted : (nodes words : List ℕ) → least_words ≤ length words → nodes ≡ node_part s → Given nodes h.nodes n columns words
-    given-accepted nodes words l e =
+    pub given_accepted : (nodes words : List ℕ) → least_words ≤ length words → nodes ≡ node_part s → Given nodes h.nodes n columns words
+    given_accepted nodes words l e =
         subst (λ (w : List ℕ). Given w h.nodes n columns words) (sym e)
         (subst (λ (w : List ℕ). Given (node_part s) h.nodes n w words) (sym read)
         (subst (λ (k : ℕ). Given (node_part s) h.nodes k (columns_of h.signals k t) words) many
         (subst (λ (g : Header). Given (node_part s) g.nodes (cycle_count t) (columns_of g.signals (cycle_count t) t) words) same
-        (given-opened s t (open_answer_lem s h accepted) trace-is words l))))
+        (given_opened s t (open_answer_lem s h accepted) trace_is words l))))
 
-    pub told-accepted : trace_of n columns ≡ cycles_of t
-    told-accepted =
+    pub told_accepted : trace_of n columns ≡ cycles_of t
+    told_accepted =
         subst (λ (w : List ℕ). trace_of n w ≡ cycles_of t) (sym read)
         (subst (λ (k : ℕ). trace_of k (columns_of h.signals k t) ≡ cycles_of t) many
         (subst (λ (g : Header). trace_of (cycle_count t) (columns_of g.signals (cycle_count t) t) ≡ cycles_of t) same
-        (told-opened s t (open_answer_lem s h accepted) trace-is)))
+        (told_opened s t (open_answer_lem s h accepted) trace_is)))
 
 -- lists in order whose entries are equal
 pub in_order_same : (n : ℕ) (f g : ℕ → ℕ) → ((i : ℕ) → i < n → f i ≡ g i) → in_order n f ≡ in_order n g
@@ -115,8 +115,8 @@ unfolding table_of
 table_is {nodes} {columns} {columns'} {words} {words'} {count} {n} g cycles i e t same node h sort =
     in_order_same 64 (earlier n 0 (row_at words' node)) (row (length (trace_of n columns)) (holds (formula_at (node_at nodes) node) (trace_of n columns) (marks (standing cycles))))
     (λ k l. rw (told_length n columns) (elim (test (ltb k n)) [
-      | inl q ↦ earlier-at n 0 (row_at words' node) k (ltb-true k n q) ∙ placed.rows sort k (ltb-true k n q)
-      | inr q ↦ earlier-not n 0 (row_at words' node) k (ltb-false k n q) ∙ row_past n (holds (formula_at (node_at nodes) node) (trace_of n columns) (marks (standing cycles))) k (ltb-false k n q)
+      | inl q ↦ earlier_at n 0 (row_at words' node) k (ltb-true k n q) ∙ placed.rows sort k (ltb-true k n q)
+      | inr q ↦ earlier_not n 0 (row_at words' node) k (ltb-false k n q) ∙ row_past n (holds (formula_at (node_at nodes) node) (trace_of n columns) (marks (standing cycles))) k (ltb-false k n q)
     ]))
   where
     ready : Ready nodes count n (reach_table (node_at nodes) count) (with_names columns cycles) words'

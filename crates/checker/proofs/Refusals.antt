@@ -46,17 +46,17 @@ answers_rows r rows words e = record { answered = rw e; left = rw e }
 
 -- refusals 16 and 17
 module _ (x : ℕ → Node) (count n m node p0 p1 p2 : ℕ) where
-  pub node-16 : is_formula_node requirement_sorts x count node ≡ false → 16 ≡ node_refusal x count n m node p0 p1 p2
+  pub node_16 : is_formula_node requirement_sorts x count node ≡ false → 16 ≡ node_refusal x count n m node p0 p1 p2
   unfolding node_refusal node_rules lowest
-  node-16 e = rw e
+  node_16 e = rw e
 
-  pub node-17 : is_formula_node requirement_sorts x count node ≡ true → names_placed m n p0 p1 p2 ≡ false → 17 ≡ node_refusal x count n m node p0 p1 p2
+  pub node_17 : is_formula_node requirement_sorts x count node ≡ true → names_placed m n p0 p1 p2 ≡ false → 17 ≡ node_refusal x count n m node p0 p1 p2
   unfolding node_refusal node_rules lowest
-  node-17 e f = rw (e, f)
+  node_17 e f = rw (e, f)
 
-  pub node-right : is_formula_node requirement_sorts x count node ≡ true → names_placed m n p0 p1 p2 ≡ true → node_refusal x count n m node p0 p1 p2 ≡ 0
+  pub node_right_lem : is_formula_node requirement_sorts x count node ≡ true → names_placed m n p0 p1 p2 ≡ true → node_refusal x count n m node p0 p1 p2 ≡ 0
   unfolding node_refusal node_rules lowest
-  node-right e f = rw (e, f)
+  node_right_lem e f = rw (e, f)
 
 -- a cycle that is heeded is one of the trace
 heeded_inside : (m n u p : ℕ) → 1 ≤ n → name_placed m n u p ≡ true → heeded m u p < n
@@ -98,26 +98,26 @@ module _ (s t : List ℕ) (node p0 p1 p2 : ℕ) (words : List ℕ) where
       let z = answers_refused number (table_refusal s t node p0 p1 p2 words) (table_of (nodes_of s) (cycles_of t) node (placement_of (header_of s).names p0 p1 p2)) words (e ∙ back) (ap (λ (k : ℕ). eqb k 0) a ∙ f) in
       (z.answered, z.left)
 
-  pub by-sheet : (number : ℕ) → number ≡ sheet_refusal s → eqb (sheet_refusal s) 0 ≡ false → Refuses number
+  pub by_sheet : (number : ℕ) → number ≡ sheet_refusal s → eqb (sheet_refusal s) 0 ≡ false → Refuses number
   unfolding table_refusal
-  by-sheet number e f = by_number number (sheet_refusal s) (or_first (sheet_refusal s) _ f) e f
+  by_sheet number e f = by_number number (sheet_refusal s) (or_first (sheet_refusal s) _ f) e f
 
-  pub by-trace : (number : ℕ) → sheet_refusal s ≡ 0 → number ≡ trace_refusal (header_of s).signals t → eqb (trace_refusal (header_of s).signals t) 0 ≡ false → Refuses number
+  pub by_trace : (number : ℕ) → sheet_refusal s ≡ 0 → number ≡ trace_refusal (header_of s).signals t → eqb (trace_refusal (header_of s).signals t) 0 ≡ false → Refuses number
   unfolding table_refusal
-  by-trace number a e f =
+  by_trace number a e f =
       by_number number (trace_refusal (header_of s).signals t) (or_second (sheet_refusal s) _ a ∙ or_first (trace_refusal (header_of s).signals t) _ f) e f
 
-  pub by-words : sheet_refusal s ≡ 0 → trace_refusal (header_of s).signals t ≡ 0 → length words < least_words → Refuses 15
+  pub by_words : sheet_refusal s ≡ 0 → trace_refusal (header_of s).signals t ≡ 0 → length words < least_words → Refuses 15
   unfolding table_refusal
-  by-words a b l =
+  by_words a b l =
       let few = words_few words l in
       let refused = ap (λ (k : ℕ). eqb k 0) few in
       by_number 15 (words_refusal words)
       (or_second (sheet_refusal s) _ a ∙ or_second (trace_refusal (header_of s).signals t) _ b ∙ or_first (words_refusal words) _ refused)
       (sym few) refused
 
-  pub by-node : sheet_refusal s ≡ 0 → trace_refusal (header_of s).signals t ≡ 0 → least_words ≤ length words
+  pub by_node : sheet_refusal s ≡ 0 → trace_refusal (header_of s).signals t ≡ 0 → least_words ≤ length words
       → node_refusal (nodes_of s) (header_of s).nodes (cycle_count t) (header_of s).names node p0 p1 p2 ≡ table_refusal s t node p0 p1 p2 words
   unfolding table_refusal
-  by-node a b l =
+  by_node a b l =
       sym (or_second (sheet_refusal s) _ a ∙ or_second (trace_refusal (header_of s).signals t) _ b ∙ or_second (words_refusal words) _ (words_many words l))

@@ -31,7 +31,7 @@ use Rattle.checker.specs.declared.failing.Failing.{Failing}
 use Rattle.checker.specs.Check.{told}
 use Rattle.checker.specs.Clauses.{PlaceIs, First, FailingIs, clause_at, place_of}
 use Rattle.places.specs.Laid.{Laid}
-use Rattle.intervals.proofs.Places.{fails-least, place-least}
+use Rattle.intervals.proofs.Places.{fails_least, place_least}
 
 -- ---- the first failing clause of a list in order
 excused_none : (from n : ℕ) (f : ℕ → Clause) (σ : Trace) (v : semantics.Finding) → ((k : ℕ) → k < n → fails_as assumption σ (f k) ≡ false)
@@ -69,27 +69,27 @@ broken_at from (suc n) f σ v (suc k) l h e =
     ∙ ap (λ (c : ℕ). semantics.Broken (first_place c (length σ) (breaks (f (suc k)) σ))) z)
 
 module _ (f : ℕ → Clause) (c : ℕ) (σ : Trace) where
-  pub finding-excused : (k place : ℕ) → First assumption f c σ k place → Excused k ≡ told (finding_of (in_order c f) σ)
+  pub finding_excused : (k place : ℕ) → First assumption f c σ k place → Excused k ≡ told (finding_of (in_order c f) σ)
   unfolding finding_of told
-  finding-excused k place w =
+  finding_excused k place w =
       let z : 0 + k ≡ k = omega arith in
       sym (ap told (excused_at 0 c f σ (broken_or 0 (in_order c f) σ semantics.Holds) k w.below w.before w.fails ∙ ap semantics.Excused z))
 
-  pub finding-broken : (k place : ℕ) → length σ ≤ 64 → ((j : ℕ) → j < c → fails_as assumption σ (f j) ≡ false) → First commitment f c σ k place
+  pub finding_broken : (k place : ℕ) → length σ ≤ 64 → ((j : ℕ) → j < c → fails_as assumption σ (f j) ≡ false) → First commitment f c σ k place
       → Broken (place_of k place) ≡ told (finding_of (in_order c f) σ)
   unfolding finding_of told place_of
-  finding-broken k place short h w =
+  finding_broken k place short h w =
       let z : 0 + k ≡ k = omega arith in
       sym (ap told
       (excused_none 0 c f σ (broken_or 0 (in_order c f) σ semantics.Holds) h
       ∙ broken_at 0 c f σ semantics.Holds k w.below w.before w.fails
       ∙ ap (λ (n : ℕ). semantics.Broken (first_place n (length σ) (breaks (f k) σ))) z
-      ∙ ap semantics.Broken (place-least (f k) σ short place w.least k w.found)))
+      ∙ ap semantics.Broken (place_least (f k) σ short place w.least k w.found)))
 
-  pub finding-holds : ((j : ℕ) → j < c → fails_as assumption σ (f j) ≡ false) → ((j : ℕ) → j < c → fails_as commitment σ (f j) ≡ false)
+  pub finding_holds : ((j : ℕ) → j < c → fails_as assumption σ (f j) ≡ false) → ((j : ℕ) → j < c → fails_as commitment σ (f j) ≡ false)
       → Holds ≡ told (finding_of (in_order c f) σ)
   unfolding finding_of told
-  finding-holds h g =
+  finding_holds h g =
       sym (ap told (excused_none 0 c f σ (broken_or 0 (in_order c f) σ semantics.Holds) h ∙ broken_none 0 c f σ semantics.Holds g))
 
 -- ---- one clause
@@ -99,22 +99,22 @@ role_of_lem x d role h l = same_role_lem role d.role h l
 
 module _ (x : ℕ → Node) (d : StoredClause) (role : ℕ) (h : role ≤ last_role) (l : d.role ≤ last_role) (σ : Trace) where
   -- another role
-  pub other-role : (d.role ≡ role → ⊥) → fails_as (role_of role) σ (clause_of x d) ≡ false
+  pub other_role : (d.role ≡ role → ⊥) → fails_as (role_of role) σ (clause_of x d) ≡ false
   unfolding fails_as
-  other-role ne = and_false_left (has_role (role_of role) (clause_of x d)) (fails (clause_of x d) σ) (role_of_lem x d role h l ∙ ne_eqb role d.role (λ e. ne (sym e)))
+  other_role ne = and_false_left (has_role (role_of role) (clause_of x d)) (fails (clause_of x d) σ) (role_of_lem x d role h l ∙ ne_eqb role d.role (λ e. ne (sym e)))
 
   module _ (short : length σ ≤ 64) (r : ℕ) (least : IsLeast places (numbered (length σ) (breaks (clause_of x d) σ)) r) where
     pub no_place : places ≤ r → fails_as (role_of role) σ (clause_of x d) ≡ false
     unfolding fails_as
     no_place m =
         and_false_right (has_role (role_of role) (clause_of x d)) (fails (clause_of x d) σ)
-        (fails-least (clause_of x d) σ short r least ∙ borrow.Author.Tests.le-ltb r places m)
+        (fails_least (clause_of x d) σ short r least ∙ borrow.Author.Tests.le-ltb r places m)
 
-    pub some-place : d.role ≡ role → r < places → fails_as (role_of role) σ (clause_of x d) ≡ true
+    pub some_place : d.role ≡ role → r < places → fails_as (role_of role) σ (clause_of x d) ≡ true
     unfolding fails_as
-    some-place e m =
+    some_place e m =
         and_intro (has_role (role_of role) (clause_of x d)) (fails (clause_of x d) σ) (role_of_lem x d role h l ∙ eq-eqb role d.role (sym e))
-        (fails-least (clause_of x d) σ short r least ∙ lt-ltb r places m)
+        (fails_least (clause_of x d) σ short r least ∙ lt-ltb r places m)
 
 -- ---- the advice of a list in order, bit by bit
 abbrev pub advised : (ℕ → Clause) → Trace → ℕ → Bool

@@ -11,15 +11,15 @@ use lib.Seq.{drop-cons}
 use Rattle.grammar.specs.Spelled.{is_among}
 
 module _ (b : ℕ) (bytes : List ℕ) (k : ℕ) where
-  among-step : k < length bytes → is_among b (drop k bytes) ≡ eqb b (get_or bytes k 0) || is_among b (drop (k + 1) bytes)
+  among_step : k < length bytes → is_among b (drop k bytes) ≡ eqb b (get_or bytes k 0) || is_among b (drop (k + 1) bytes)
   unfolding is_among
-  among-step h = rw (add-one, drop-cons bytes k 0 h)
+  among_step h = rw (add-one, drop-cons bytes k 0 h)
 
-  pub among-here : k < length bytes → b ≡ get_or bytes k 0 → is_among b (drop k bytes) ≡ true
-  among-here h e = among-step h ∙ rw (eq-eqb b (get_or bytes k 0) e)
+  pub among_here : k < length bytes → b ≡ get_or bytes k 0 → is_among b (drop k bytes) ≡ true
+  among_here h e = among_step h ∙ rw (eq-eqb b (get_or bytes k 0) e)
 
   pub among_later : k < length bytes → (b ≡ get_or bytes k 0 → ⊥) → is_among b (drop k bytes) ≡ is_among b (drop (k + 1) bytes)
-  among_later h e = among-step h ∙ rw (ne_eqb b (get_or bytes k 0) e)
+  among_later h e = among_step h ∙ rw (ne_eqb b (get_or bytes k 0) e)
 
   pub among_none : length bytes ≤ k → is_among b (drop k bytes) ≡ false
   unfolding is_among

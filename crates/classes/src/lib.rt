@@ -1,4 +1,6 @@
 // The classes of bytes, and the class of a byte by its definition. The reader of texts asks a table instead, which is printed from here.
+#![tactic(auto)]
+
 ghost use Rattle.std.specs.Prelude.{◌≡◌};
 ghost use Rattle.grammar.specs.Spelled.{is_among};
 ghost use Rattle.grammar.specs.Class.{class_of};

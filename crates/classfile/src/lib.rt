@@ -1,4 +1,6 @@
 // The source file of the table of classes, as text.
+#![tactic(auto)]
+
 ghost use Rattle.std.specs.Prelude.{◌≡◌, ◌+◌, ◌≤◌, length};
 ghost use Rattle.grammar.specs.Class.{classes_from};
 ghost use Rattle.lines.specs.Lines.{Put};

@@ -1,4 +1,6 @@
 // Prints the source file of the table of classes, `crates/lexer/src/table.rt`.
+#![tactic(auto)]
+
 use libc::STDOUT_FILENO;
 
 fn main() {

@@ -13,8 +13,8 @@ use Rattle.stored.specs.Clause.{parts_used, type_of}
 use Rattle.stored.specs.Sheet.{header_of}
 use Rattle.stored.proofs.Accepted.{type_cases}
 use Rattle.plans.specs.Emission.{Ready}
-use Rattle.plans.proofs.Plans.{Tells, tells-within, everywhere-told, longer-told, chop-told, and-told, not-told}
-use Rattle.clauses.proofs.Names.{Inside, union_inside, without_inside, many, many_both, many_most, marks-told, placed-told}
+use Rattle.plans.proofs.Plans.{Tells, tells_within, everywhere_told, longer_told, chop_told, and_told, not_told}
+use Rattle.clauses.proofs.Names.{Inside, union_inside, without_inside, many, many_both, many_most, marks_told, placed_told}
 
 -- a number that is no type's stands for type 1
 pub pref_is : (k : ℕ) → (k ≡ 2 → ⊥) → (k ≡ 3 → ⊥) → (k ≡ 4 → ⊥) → (k ≡ 5 → ⊥) → (k ≡ 6 → ⊥) → type_of k ≡ pref
@@ -41,40 +41,40 @@ module _ {y : List ℕ} (ready : Ready y) (p₁ p₂ p₃ f₁ f₂ f₃ : Formu
   most : {a b : Names} → Inside m a → Inside m b → many a + many (without b a) ≤ m
   most {a} {b} h k = omega (arith, many_both a b, many_most (union a b) ready.good.few_names (union_inside h k))
 
-  unanswered-told : Tells y p₂ f₂ 0 → Tells y p₃ f₃ 0
+  unanswered_told : Tells y p₂ f₂ 0 → Tells y p₃ f₃ 0
       → Tells y (unanswered_of Θ₁ p₂ Θ₂ p₃ Θ₃) (unanswered_of Θ₁ f₂ Θ₂ f₃ Θ₃) (6 + many (without Θ₃ Θ₁) + 2 * many (without Θ₂ Θ₁₃))
   unfolding unanswered_of shortest_of
-  unanswered-told t₂ t₃ =
-      let shortest = and-told t₃ (not-told (chop-told t₃ (longer-told ready))) in
-      let ended = marks-told ready (without Θ₃ Θ₁) (without_inside Θ₁ in₃) shortest in
-      let given = placed-told ready (without Θ₂ Θ₁₃) (without_inside Θ₁₃ in₂) t₂ in
-      tells-within _ (omega arith) (and-told ended (not-told (chop-told given (everywhere-told ready))))
+  unanswered_told t₂ t₃ =
+      let shortest = and_told t₃ (not_told (chop_told t₃ (longer_told ready))) in
+      let ended = marks_told ready (without Θ₃ Θ₁) (without_inside Θ₁ in₃) shortest in
+      let given = placed_told ready (without Θ₂ Θ₁₃) (without_inside Θ₁₃ in₂) t₂ in
+      tells_within _ (omega arith) (and_told ended (not_told (chop_told given (everywhere_told ready))))
 
   abbrev BrokenTold : ℕ → Type 0
   BrokenTold k =
       (ltb 0 (parts_used k) ≡ true → Tells y p₁ f₁ 0) → (ltb 1 (parts_used k) ≡ true → Tells y p₂ f₂ 0) → (ltb 2 (parts_used k) ≡ true → Tells y p₃ f₃ 0)
       → Tells y (broken_of (type_of k) p₁ Θ₁ p₂ Θ₂ p₃ Θ₃) (broken_of (type_of k) f₁ Θ₁ f₂ Θ₂ f₃ Θ₃) (10 + 3 * m)
 
-  pub broken-told : (k : ℕ) → 1 ≤ k → k ≤ 6 → BrokenTold k
+  pub broken_told : (k : ℕ) → 1 ≤ k → k ≤ 6 → BrokenTold k
   unfolding parts_used type_of broken_of
-  broken-told =
-      let rest = everywhere-told ready in
+  broken_told =
+      let rest = everywhere_told ready in
       let both = union_inside in₁ in₃ in
       let late : 3 * many Θ₁₃ + 2 * many (without Θ₂ Θ₁₃) ≤ 3 * m = omega (arith, most both in₂) in
       type_cases BrokenTold
-      (λ t₁ t₂ t₃. tells-within _ (omega (arith, most in₁ in₁)) (chop-told (not-told (placed-told ready Θ₁ in₁ (t₁ refl))) rest))
+      (λ t₁ t₂ t₃. tells_within _ (omega (arith, most in₁ in₁)) (chop_told (not_told (placed_told ready Θ₁ in₁ (t₁ refl))) rest))
       (λ t₁ t₂ t₃.
-      let missed = not-told (chop-told (placed-told ready (without Θ₁ Θ₂) (without_inside Θ₂ in₁) (t₁ refl)) rest) in
-      tells-within _ (omega (arith, most in₂ in₁)) (chop-told (placed-told ready Θ₂ in₂ (and-told (t₂ refl) missed)) rest))
-      (λ t₁ t₂ t₃. tells-within _ (omega (arith, most in₁ in₁)) (chop-told rest (chop-told (placed-told ready Θ₁ in₁ (t₁ refl)) rest)))
+      let missed = not_told (chop_told (placed_told ready (without Θ₁ Θ₂) (without_inside Θ₂ in₁) (t₁ refl)) rest) in
+      tells_within _ (omega (arith, most in₂ in₁)) (chop_told (placed_told ready Θ₂ in₂ (and_told (t₂ refl) missed)) rest))
+      (λ t₁ t₂ t₃. tells_within _ (omega (arith, most in₁ in₁)) (chop_told rest (chop_told (placed_told ready Θ₁ in₁ (t₁ refl)) rest)))
       (λ t₁ t₂ t₃.
-      let missed = not-told (placed-told ready (without Θ₂ Θ₁) (without_inside Θ₁ in₂) (t₂ refl)) in
-      tells-within _ (omega (arith, most in₁ in₂)) (chop-told rest (chop-told (placed-told ready Θ₁ in₁ (and-told (t₁ refl) missed)) rest)))
+      let missed = not_told (placed_told ready (without Θ₂ Θ₁) (without_inside Θ₁ in₂) (t₂ refl)) in
+      tells_within _ (omega (arith, most in₁ in₂)) (chop_told rest (chop_told (placed_told ready Θ₁ in₁ (and_told (t₁ refl) missed)) rest)))
       (λ t₁ t₂ t₃.
-      let first = marks-told ready Θ₁ in₁ (t₁ refl) in
-      let later = chop-told (unanswered-told (t₂ refl) (t₃ refl)) rest in
-      tells-within _ (omega (arith, many_both Θ₁ Θ₃)) (chop-told rest (placed-told ready Θ₁₃ both (chop-told first later))))
+      let first = marks_told ready Θ₁ in₁ (t₁ refl) in
+      let later = chop_told (unanswered_told (t₂ refl) (t₃ refl)) rest in
+      tells_within _ (omega (arith, many_both Θ₁ Θ₃)) (chop_told rest (placed_told ready Θ₁₃ both (chop_told first later))))
       (λ t₁ t₂ t₃.
-      let first = chop-told (marks-told ready Θ₁ in₁ (t₁ refl)) rest in
-      let later = chop-told (unanswered-told (t₂ refl) (t₃ refl)) rest in
-      tells-within _ (omega (arith, many_both Θ₁ Θ₃)) (chop-told rest (placed-told ready Θ₁₃ both (and-told first later))))
+      let first = chop_told (marks_told ready Θ₁ in₁ (t₁ refl)) rest in
+      let later = chop_told (unanswered_told (t₂ refl) (t₃ refl)) rest in
+      tells_within _ (omega (arith, many_both Θ₁ Θ₃)) (chop_told rest (placed_told ready Θ₁₃ both (and_told first later))))

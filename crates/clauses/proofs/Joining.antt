@@ -23,7 +23,7 @@ use Rattle.stored.specs.Tree.{formula_at}
 use Rattle.stored.specs.Reach.{entry_of}
 use Rattle.stored.specs.Clause.{stored_at, last_role, role_of, part_of, clause_of}
 use Rattle.stored.specs.Sheet.{header_of}
-use Rattle.stored.proofs.Rules.{length-inOrder, getD-inOrder}
+use Rattle.stored.proofs.Rules.{length_in_order, get_or_in_order}
 use Rattle.stored.proofs.Roles.{same_role_lem}
 use Rattle.stored.proofs.Accepted.{PartKept, ClauseKept, clause_kept}
 use Rattle.plans.specs.Emission.{count, Step, Has, Emits, Ready}
@@ -34,7 +34,7 @@ use Rattle.plans.proofs.Nodes.{or_new, not_new}
 use Rattle.plans.proofs.Plans.{Tells, told}
 use Rattle.clauses.specs.Clauses.{ClausesIn, side_count, broken_in, JoinedBy, passed, joined, clause_at, clauses_at, clause_cost, requirement_cost}
 use Rattle.clauses.proofs.Names.{mask_inside}
-use Rattle.clauses.proofs.Broken.{broken-told}
+use Rattle.clauses.proofs.Broken.{broken_told}
 
 -- ---- a clause over the copies
 pub clauses_kept : {x y nodes clauses : List ℕ} {n c j : ℕ} → Step x y j → ClausesIn x nodes n clauses c → ClausesIn y nodes n clauses c
@@ -47,23 +47,23 @@ clause_known {x} {nodes} {clauses} {n} h k l e =
     rw e (clause_kept (node_at nodes) n (header_of x).names (stored_at clauses k) (h.right k l) (h.named k l))
 
 module _ {y : List ℕ} (map : List ℕ) (x : ℕ → Node) (n : ℕ) (d : StoredClause) (mapped : Mapped x n y map) (kept : ClauseKept x n (header_of y).names d) where
-  part-told : (used : Bool) (root mask : ℕ) → PartKept x n (header_of y).names used root mask → used ≡ true
+  part_told : (used : Bool) (root mask : ℕ) → PartKept x n (header_of y).names used root mask → used ≡ true
       → Tells y (at (entry_of map root)) (undrawn (formula_at x root)) 0
-  part-told used root mask p u = told ((mapped root (p.root_found u).less).formula (p.root_found u).sorted)
+  part_told used root mask p u = told ((mapped root (p.root_found u).less).formula (p.root_found u).sorted)
 
-  clause-told : Ready y → Tells y (broken_in map d) (broken_clause (clause_of x d)) (10 + 3 * (header_of y).names)
+  clause_told : Ready y → Tells y (broken_in map d) (broken_clause (clause_of x d)) (10 + 3 * (header_of y).names)
   unfolding broken_in broken_clause clause_of part_of
-  clause-told ready =
+  clause_told ready =
       let m = (header_of y).names in
-      broken-told ready
+      broken_told ready
       (at (entry_of map d.root1)) (at (entry_of map d.root2)) (at (entry_of map d.root3))
       (undrawn (formula_at x d.root1)) (undrawn (formula_at x d.root2)) (undrawn (formula_at x d.root3))
       (bit d.mask1) (bit d.mask2) (bit d.mask3)
       (mask_inside m d.mask1 kept.part1.small) (mask_inside m d.mask2 kept.part2.small) (mask_inside m d.mask3 kept.part3.small)
       d.clause_type kept.type_least kept.type_most
-      (part-told _ d.root1 d.mask1 kept.part1)
-      (part-told _ d.root2 d.mask2 kept.part2)
-      (part-told _ d.root3 d.mask3 kept.part3)
+      (part_told _ d.root1 d.mask1 kept.part1)
+      (part_told _ d.root2 d.mask2 kept.part2)
+      (part_told _ d.root3 d.mask3 kept.part3)
 
 clause_role : (nodes clauses : List ℕ) (k : ℕ) (d : StoredClause) → d ≡ stored_at clauses k → (clause_at nodes clauses k).role ≡ role_of d.role
 unfolding clause_at clause_of
@@ -72,11 +72,11 @@ clause_role nodes clauses k d e = ap (λ (o : StoredClause). role_of o.role) (sy
 -- clause k of the list
 clauses_length : (nodes clauses : List ℕ) (c : ℕ) → length (clauses_at nodes clauses c) ≡ c
 unfolding clauses_at
-clauses_length nodes clauses c = length-inOrder c (clause_at nodes clauses)
+clauses_length nodes clauses c = length_in_order c (clause_at nodes clauses)
 
 clauses_at_lem : (nodes clauses : List ℕ) (c k : ℕ) → k < c → get_or (clauses_at nodes clauses c) k (clause_at nodes clauses k) ≡ clause_at nodes clauses k
 unfolding clauses_at
-clauses_at_lem nodes clauses c k h = getD-inOrder c (clause_at nodes clauses) k (clause_at nodes clauses k) h
+clauses_at_lem nodes clauses c k h = get_or_in_order c (clause_at nodes clauses) k (clause_at nodes clauses k) h
 
 -- ---- costs
 joined_cost : (k m : ℕ) → k * (11 + 3 * m) + (11 + 3 * m) ≡ (k + 1) * (11 + 3 * m)
@@ -146,10 +146,10 @@ module _ (cs : List Clause) (k : ℕ) (c : Clause) (inside : k < length cs) (is 
     of j l = ap (same_role (role_of j)) roled ∙ same_role_lem j role (omega arith) small
 
     -- the clause is joined to its side
-    joined-one : {w : List ℕ} {r j : ℕ} → role < side_count → Step x w ((k + 1) * clause_cost (header_of x).names) → Step y w j
+    joined_one : {w : List ℕ} {r j : ℕ} → role < side_count → Step x w ((k + 1) * clause_cost (header_of x).names) → Step y w j
         → Has w r (disjunction (join_broken (role_of role) nothing (take k cs)) (broken_clause c)) → Joined cs x (k + 1) w (set sides role r)
     unfolding with_last
-    joined-one {w} {r} side all s new =
+    joined_one {w} {r} side all s new =
         record {
           step = all;
           two = lib.ListN.length-set sides role r ∙ h.two;
@@ -164,9 +164,9 @@ module _ (cs : List Clause) (k : ℕ) (c : Clause) (inside : k < length cs) (is 
         }
 
     -- advice has none
-    joined-over : side_count ≤ role → Joined cs x (k + 1) y sides
+    joined_over : side_count ≤ role → Joined cs x (k + 1) y sides
     unfolding with_last
-    joined-over large =
+    joined_over large =
         record {
           step = wider _ (omega (arith, joined_cost k (header_of x).names)) h.step;
           two = h.two;
@@ -179,17 +179,17 @@ pub joined_next : {x y w sides sides' : List ℕ} {n c : ℕ} (map nodes clauses
     → JoinedBy map d y w sides sides' → Joined (clauses_at nodes clauses c) x (k + 1) w sides'
 joined_next {n = n} {c} map nodes clauses k d ready low sheet mapped less read h (passed large) =
     let kept = clause_known sheet k less read in
-    joined-over (clauses_at nodes clauses c) k (clause_at nodes clauses k) (omega (arith, clauses_length nodes clauses c)) (clauses_at_lem nodes clauses c k less)
+    joined_over (clauses_at nodes clauses c) k (clause_at nodes clauses k) (omega (arith, clauses_length nodes clauses c)) (clauses_at_lem nodes clauses c k less)
     d.role kept.role_most (clause_role nodes clauses k d read) h large
 joined_next {x} {y} {w} {n = n} {c} map nodes clauses k d ready low sheet mapped less read h (joined {y = z} {b = b} side wrote put) =
     let m = (header_of x).names in
     let kept = clause_known sheet k less read in
     let cost = joined_cost k m in
     let most = joined_most (k + 1) m (omega (arith, sheet.few)) ready.good.few_names in
-    let e = clause-told map (node_at nodes) n d mapped kept ready y z b _ h.step (omega (arith, h.step.few)) wrote in
+    let e = clause_told map (node_at nodes) n d mapped kept ready y z b _ h.step (omega (arith, h.step.few)) wrote in
     let o = or_new e.step.good (omega (arith, h.step.few, e.step.few)) (has_kept e.step (h.has d.role side)) e.has put in
     let s = steps e.step o.step in
-    joined-one (clauses_at nodes clauses c) k (clause_at nodes clauses k) (omega (arith, clauses_length nodes clauses c)) (clauses_at_lem nodes clauses c k less)
+    joined_one (clauses_at nodes clauses c) k (clause_at nodes clauses k) (omega (arith, clauses_length nodes clauses c)) (clauses_at_lem nodes clauses c k less)
     d.role kept.role_most (clause_role nodes clauses k d read) h side (wider _ (omega arith) (steps h.step s)) s (has_as _ refl (is_clause nodes clauses c k d read) o.has)
 
 -- all joined, and the root, after the nodes of the sheet

@@ -16,7 +16,7 @@ use Rattle.semantics.proofs.Tests.{test, and_left}
 use Rattle.stored.specs.Sheet.{header_of}
 use Rattle.plans.specs.Emission.{Ready}
 use Rattle.plans.specs.Plan.{Wrote, there, marked, conjoined, columned}
-use Rattle.plans.proofs.Plans.{Tells, tells-within, once-told, and-told, some-told}
+use Rattle.plans.proofs.Plans.{Tells, tells_within, once_told, and_told, some_told}
 
 -- ---- sets of names, and how many names they have
 -- every name of the set is one of the m
@@ -125,28 +125,28 @@ placed_over names w v = name_over 0 (names 0) (name_over 1 (names 1) (name_over 
 
 -- ---- what they tell: a node for a name's one mark, and one for its column
 module _ {y : List ℕ} (ready : Ready y) where
-  mark-told : {f g : Formula} {k : ℕ} (u : ℕ) (p : Bool) → (p ≡ true → u < (header_of y).names) → Tells y f g k
+  mark_told : {f g : Formula} {k : ℕ} (u : ℕ) (p : Bool) → (p ≡ true → u < (header_of y).names) → Tells y f g k
       → Tells y (once₁ u p f) (once₁ u p g) (k + cond p 1 0)
   unfolding once₁
-  mark-told {k = k} u false h t = tells-within _ (omega arith) t
-  mark-told {k = k} u true h t = tells-within (k + 1) (omega arith) (and-told (once-told ready (h refl)) t)
+  mark_told {k = k} u false h t = tells_within _ (omega arith) t
+  mark_told {k = k} u true h t = tells_within (k + 1) (omega arith) (and_told (once_told ready (h refl)) t)
 
-  name-told : {f g : Formula} {k : ℕ} (u : ℕ) (p : Bool) → (p ≡ true → u < (header_of y).names) → Tells y f g k
+  name_told : {f g : Formula} {k : ℕ} (u : ℕ) (p : Bool) → (p ≡ true → u < (header_of y).names) → Tells y f g k
       → Tells y (placed₁ u p f) (placed₁ u p g) (k + 2 * cond p 1 0)
   unfolding placed₁
-  name-told {k = k} u false h t = tells-within _ (omega arith) t
-  name-told {k = k} u true h t = tells-within (k + 2) (omega arith) (some-told u (h refl) (and-told (once-told ready (h refl)) t))
+  name_told {k = k} u false h t = tells_within _ (omega arith) t
+  name_told {k = k} u true h t = tells_within (k + 2) (omega arith) (some_told u (h refl) (and_told (once_told ready (h refl)) t))
 
-  pub marks-told : {f g : Formula} {k : ℕ} (names : Names) → Inside (header_of y).names names → Tells y f g k
+  pub marks_told : {f g : Formula} {k : ℕ} (names : Names) → Inside (header_of y).names names → Tells y f g k
       → Tells y (once names f) (once names g) (k + many names)
   unfolding once once_name once₁ many
-  marks-told names inside t =
-      tells-within _ (omega arith)
-      (mark-told 0 (names 0) (inside 0) (mark-told 1 (names 1) (inside 1) (mark-told 2 (names 2) (inside 2) t)))
+  marks_told names inside t =
+      tells_within _ (omega arith)
+      (mark_told 0 (names 0) (inside 0) (mark_told 1 (names 1) (inside 1) (mark_told 2 (names 2) (inside 2) t)))
 
-  pub placed-told : {f g : Formula} {k : ℕ} (names : Names) → Inside (header_of y).names names → Tells y f g k
+  pub placed_told : {f g : Formula} {k : ℕ} (names : Names) → Inside (header_of y).names names → Tells y f g k
       → Tells y (placed names f) (placed names g) (k + 2 * many names)
   unfolding placed placed_name placed₁ many
-  placed-told names inside t =
-      tells-within _ (omega arith)
-      (name-told 0 (names 0) (inside 0) (name-told 1 (names 1) (inside 1) (name-told 2 (names 2) (inside 2) t)))
+  placed_told names inside t =
+      tells_within _ (omega arith)
+      (name_told 0 (names 0) (inside 0) (name_told 1 (names 1) (inside 1) (name_told 2 (names 2) (inside 2) t)))

@@ -23,14 +23,14 @@ use Rattle.stored.specs.Reach.{entry_of}
 use Rattle.stored.specs.Sheet.{header_of}
 use Rattle.stored.specs.Written.{NodeFits}
 use Rattle.stored.proofs.Rules.{every_number}
-use Rattle.stored.proofs.Tree.{formula_cases, operands, proposition-law, formula-law}
+use Rattle.stored.proofs.Tree.{formula_cases, operands, proposition_law, formula_law}
 use Rattle.plans.specs.Bound.{most_emitted, is_drawing, drawing_at}
 use Rattle.plans.specs.Emission.{count, Step, HasProposition, Has, Emits, Ready}
 use Rattle.emission.specs.Copying.{Stands, Mapped, copied_node, no_propositions, no_formulas, drawing_of, Copied, by_others, itself, copy_cost, copy_costs, NodesIn}
 use Rattle.plans.proofs.Steps.{stay, steps, wider, has_kept, proposition_kept, ready_kept, Added, put_added}
 use Rattle.plans.proofs.Plans.{Tells}
-use Rattle.emission.proofs.Copies.{Given, some-sort, q-right, a_right, may_copy, is-proposition-copied, is-formula-copied}
-use Rattle.emission.proofs.Drawings.{symbol-told, mark-told, gap-told}
+use Rattle.emission.proofs.Copies.{Given, some_sort, q_right, a_right, may_copy, is_proposition_copied, is_formula_copied}
+use Rattle.emission.proofs.Drawings.{symbol_told, mark_told, gap_told}
 
 -- ---- sorts
 same_sort : ℕ → ℕ → ℕ → Bool
@@ -62,18 +62,18 @@ undrawn_at : (ℕ → Node) → ℕ → Formula
 undrawn_at x i = undrawn (formula_at x i)
 
 module _ {x : ℕ → Node} {i : ℕ} {y map : List ℕ} (kept : operands_right requirement_sorts x i ≡ true) (mapped : Mapped x i y map) where
-  given-a : Given y map (proposition_at x) (undrawn_at x) (a_use (x i).op) (x i).a
+  given_a : Given y map (proposition_at x) (undrawn_at x) (a_use (x i).op) (x i).a
   unfolding undrawn_at
-  given-a =
+  given_a =
       let o = operands requirement_sorts x i kept in
       record {
         proposition = λ e. (mapped (x i).a (o.a_proposition e).less).proposition (o.a_proposition e).sorted;
         formula = λ e. (mapped (x i).a (o.a_formula e).less).formula (o.a_formula e).sorted;
       }
 
-  given-b : Given y map (proposition_at x) (undrawn_at x) (b_use (x i).op) (x i).b
+  given_b : Given y map (proposition_at x) (undrawn_at x) (b_use (x i).op) (x i).b
   unfolding undrawn_at
-  given-b =
+  given_b =
       let o = operands requirement_sorts x i kept in
       record {
         proposition = λ e. (mapped (x i).b (o.b_proposition e).less).proposition (o.b_proposition e).sorted;
@@ -109,11 +109,11 @@ unfolding undrawn_at UndrawnAlike is_drawing
 copied_stands {x} {i} {y} {z} {map} {r} kept some plain a b new =
     let sort = sort_copied (x i) plain some in
     record {
-      proposition = λ e. subst (HasProposition z r) (sym (proposition-law requirement_sorts x i kept)) (is-proposition-copied (x i) a b new (sort ∙ e));
+      proposition = λ e. subst (HasProposition z r) (sym (proposition_law requirement_sorts x i kept)) (is_proposition_copied (x i) a b new (sort ∙ e));
       formula =
           λ e. subst (Has z r)
-          (undrawn_alike (x i) (proposition_at x) (formula_at x) (x i).op plain ∙ sym (ap undrawn (formula-law requirement_sorts x i kept)))
-          (is-formula-copied (x i) a b new (sort ∙ e));
+          (undrawn_alike (x i) (proposition_at x) (formula_at x) (x i).op plain ∙ sym (ap undrawn (formula_law requirement_sorts x i kept)))
+          (is_formula_copied (x i) a b new (sort ∙ e));
     }
 
 -- ---- drawings
@@ -151,7 +151,7 @@ drawing_stands {x} {i} kept drawing e =
           λ s. record {
             below = e.has.below;
             sorted = e.has.sorted;
-            tree = e.has.tree ∙ ap undrawn (alike.1 ∙ sym (formula-law requirement_sorts x i kept));
+            tree = e.has.tree ∙ ap undrawn (alike.1 ∙ sym (formula_law requirement_sorts x i kept));
           };
     }
 
@@ -201,10 +201,10 @@ drawing_told {y} n ready fits drawing right =
     let s = (header_of y).signals in
     let m = (header_of y).names in
     drawing_cases (DrawingTold y n)
-    (λ q a. symbol-told ready (symbol_of n.q) (ltb-true _ _ (and_left (ltb n.a s) true a)))
-    (λ q a. mark-told ready (ltb-true _ _ (and_left (ltb n.a m) true a)))
-    (λ q a. gap-told ready (ltb-true _ _ (and_left (ltb (n.q / 16) m) _ q)) (ltb-true _ _ (and_right (ltb (n.q / 16) m) _ q)) fits.a_fits fits.b_fits)
-    n drawing (q-right requirement_sorts s m n right) (a_right requirement_sorts s m n right)
+    (λ q a. symbol_told ready (symbol_of n.q) (ltb-true _ _ (and_left (ltb n.a s) true a)))
+    (λ q a. mark_told ready (ltb-true _ _ (and_left (ltb n.a m) true a)))
+    (λ q a. gap_told ready (ltb-true _ _ (and_left (ltb (n.q / 16) m) _ q)) (ltb-true _ _ (and_right (ltb (n.q / 16) m) _ q)) fits.a_fits fits.b_fits)
+    n drawing (q_right requirement_sorts s m n right) (a_right requirement_sorts s m n right)
 
 pub gap_is : (n : Node) → is_drawing n ≡ true → (n.op ≡ 27 → ⊥) → (n.op ≡ 28 → ⊥) → n.op ≡ 29
 unfolding is_drawing
@@ -222,13 +222,13 @@ copied {y} {z} {r = r} x i ready room right kept mapped (by_others drawing fits 
     let e = drawing_told (x i) ready fits drawing right y z r 0 (stay ready.good) room w in
     (subst (λ (b : Bool). Step y z (cond b 12 1)) (sym drawing) e.step, drawing_stands kept drawing e)
 copied {y} {z} x i ready room right kept mapped (itself plain fits put) =
-    let a = given-a kept mapped in
-    let b = given-b kept mapped in
+    let a = given_a kept mapped in
+    let b = given_b kept mapped in
     let new = put_added
-    (may_copy requirement_sorts (x i) ready.good (omega arith) fits (sort_copied (x i) plain (some-sort requirement_sorts _ _ (x i) right)) (no_gap (x i) plain) right a b)
+    (may_copy requirement_sorts (x i) ready.good (omega arith) fits (sort_copied (x i) plain (some_sort requirement_sorts _ _ (x i) right)) (no_gap (x i) plain) right a b)
     put
     in
-    (subst (λ (b : Bool). Step y z (cond b 12 1)) (sym plain) new.step, copied_stands kept (some-sort requirement_sorts _ _ (x i) right) plain a b new)
+    (subst (λ (b : Bool). Step y z (cond b 12 1)) (sym plain) new.step, copied_stands kept (some_sort requirement_sorts _ _ (x i) right) plain a b new)
 
 -- one turn of the loop over the n nodes of a sheet
 pub copied_next : {x y z map nodes : List ℕ} {n r : ℕ} (i : ℕ) → Ready x → count x + 768 ≤ most_emitted → NodesIn x nodes n → i < n → length map ≡ 64

@@ -24,7 +24,7 @@ use Rattle.stored.proofs.Ways.{as_proposition, as_formula, use-of}
 use Rattle.plans.specs.Bound.{most_emitted}
 use Rattle.plans.specs.Emission.{count, proposition_in, formula_in, Good, HasProposition, Has}
 use Rattle.plans.proofs.Steps.{has_kept, proposition_kept, Addable, Added}
-use Rattle.plans.proofs.Nodes.{of_formula, of_proposition, new-proposition, new-formula}
+use Rattle.plans.proofs.Nodes.{of_formula, of_proposition, new_proposition, new_formula}
 use Rattle.emission.specs.Copying.{mapped_to, copied_node}
 
 -- ---- fields
@@ -41,17 +41,17 @@ module _ {y map : List ℕ} {p : ℕ → Proposition} {f : ℕ → Formula} (wha
         | as_formula u ↦ (h.formula u).below
       ]
 
-  given-fits : Good y → v < 65536 → mapped_to map what v < 65536
+  given_fits : Good y → v < 65536 → mapped_to map what v < 65536
   unfolding mapped_to
-  given-fits good small =
+  given_fits good small =
       elim (test (is_operand what)) [
         | inl e ↦ rw e (omega (arith, given_below e, good.few_nodes))
         | inr e ↦ rw e small
       ]
 
-  given-right : (s m : ℕ) → field_right s m what v ≡ true → field_right s m what (mapped_to map what v) ≡ true
+  given_right : (s m : ℕ) → field_right s m what v ≡ true → field_right s m what (mapped_to map what v) ≡ true
   unfolding mapped_to field_right
-  given-right s m r =
+  given_right s m r =
       elim (test (is_operand what)) [
         | inl e ↦ elim (use-of what e) [
           | as_proposition u ↦ rw u
@@ -63,9 +63,9 @@ module _ {y map : List ℕ} {p : ℕ → Proposition} {f : ℕ → Formula} (wha
       value : is_operand what ≡ false → mapped_to map what v ≡ v
       value e = rw e
 
-  given-operand : operand_right emitted_sorts (node_in y) (count y) what (mapped_to map what v) ≡ true
+  given_operand : operand_right emitted_sorts (node_in y) (count y) what (mapped_to map what v) ≡ true
   unfolding mapped_to operand_right is_operand
-  given-operand =
+  given_operand =
       elim (test (is_operand what)) [
         | inl e ↦ elim (use-of what e) [
           | as_proposition u ↦ rw u (of_proposition (h.proposition u))
@@ -81,27 +81,27 @@ module _ {y map : List ℕ} {p : ℕ → Proposition} {f : ℕ → Formula} (wha
 
 -- rule 6, opened
 module _ (sorts : List ℕ) (s m : ℕ) (n : Node) (right : fields_right sorts s m n ≡ true) where
-  pub some-sort : sort_of sorts n.op ≡ 0 → ⊥
+  pub some_sort : sort_of sorts n.op ≡ 0 → ⊥
   unfolding fields_right
-  some-sort e = go (eqb (sort_of sorts n.op) 0) (eq-eqb _ 0 e) (and_left (not (eqb (sort_of sorts n.op) 0)) _ right)
+  some_sort e = go (eqb (sort_of sorts n.op) 0) (eq-eqb _ 0 e) (and_left (not (eqb (sort_of sorts n.op) 0)) _ right)
     where
       go : (b : Bool) → b ≡ true → not b ≡ true → ⊥
       go true p q = true≢false (sym q)
       go false p q = false≢true p
 
-  pub q-right : field_right s m (q_use n.op) n.q ≡ true
+  pub q_right : field_right s m (q_use n.op) n.q ≡ true
   unfolding fields_right
-  q-right = and_left (field_right s m (q_use n.op) n.q) _ (and_right (not (eqb (sort_of sorts n.op) 0)) _ right)
+  q_right = and_left (field_right s m (q_use n.op) n.q) _ (and_right (not (eqb (sort_of sorts n.op) 0)) _ right)
 
-  ab-right : (field_right s m (a_use n.op) n.a && (field_right s m (b_use n.op) n.b && (not (eqb n.op 29) || leb n.a n.b))) ≡ true
+  ab_right : (field_right s m (a_use n.op) n.a && (field_right s m (b_use n.op) n.b && (not (eqb n.op 29) || leb n.a n.b))) ≡ true
   unfolding fields_right
-  ab-right = and_right (field_right s m (q_use n.op) n.q) _ (and_right (not (eqb (sort_of sorts n.op) 0)) _ right)
+  ab_right = and_right (field_right s m (q_use n.op) n.q) _ (and_right (not (eqb (sort_of sorts n.op) 0)) _ right)
 
   pub a_right : field_right s m (a_use n.op) n.a ≡ true
-  a_right = and_left (field_right s m (a_use n.op) n.a) _ ab-right
+  a_right = and_left (field_right s m (a_use n.op) n.a) _ ab_right
 
   b_right : field_right s m (b_use n.op) n.b ≡ true
-  b_right = and_left (field_right s m (b_use n.op) n.b) _ (and_right (field_right s m (a_use n.op) n.a) _ ab-right)
+  b_right = and_left (field_right s m (b_use n.op) n.b) _ (and_right (field_right s m (a_use n.op) n.a) _ ab_right)
 
 -- ---- the copy may come next
 pub may_copy : {y map : List ℕ} {p : ℕ → Proposition} {f : ℕ → Formula} (sorts : List ℕ) (n : Node) → Good y → count y < most_emitted → NodeFits n
@@ -119,17 +119,17 @@ may_copy {y} {map} sorts n good room fits sort no_gap right a b =
           record {
             op_fits = fits.op_fits;
             q_fits = fits.q_fits;
-            a_fits = given-fits (a_use n.op) n.a a good fits.a_fits;
-            b_fits = given-fits (b_use n.op) n.b b good fits.b_fits;
+            a_fits = given_fits (a_use n.op) n.a a good fits.a_fits;
+            b_fits = given_fits (b_use n.op) n.b b good fits.b_fits;
           };
       right =
-          and_intro _ _ (ap (λ (z : ℕ). not (eqb z 0)) sort ∙ ap not (ne_eqb _ 0 (some-sort sorts s m n right)))
-          (and_intro _ _ (q-right sorts s m n right)
-          (and_intro _ _ (given-right (a_use n.op) n.a a s m (a_right sorts s m n right))
-          (and_intro _ _ (given-right (b_use n.op) n.b b s m (b_right sorts s m n right))
+          and_intro _ _ (ap (λ (z : ℕ). not (eqb z 0)) sort ∙ ap not (ne_eqb _ 0 (some_sort sorts s m n right)))
+          (and_intro _ _ (q_right sorts s m n right)
+          (and_intro _ _ (given_right (a_use n.op) n.a a s m (a_right sorts s m n right))
+          (and_intro _ _ (given_right (b_use n.op) n.b b s m (b_right sorts s m n right))
           (ap (λ (z : Bool). not z || leb (mapped_to map (a_use n.op) n.a) (mapped_to map (b_use n.op) n.b)) (ne_eqb n.op 29 no_gap)))));
-      a_right = given-operand (a_use n.op) n.a a;
-      b_right = given-operand (b_use n.op) n.b b;
+      a_right = given_operand (a_use n.op) n.a a;
+      b_right = given_operand (b_use n.op) n.b b;
     }
 
 -- ---- and is what the node is
@@ -189,19 +189,19 @@ copied_formula map n p p' f f' k =
 
 module _ {y z map : List ℕ} {r : ℕ} {p : ℕ → Proposition} {f : ℕ → Formula} (n : Node)
     (a : Given y map p f (a_use n.op) n.a) (b : Given y map p f (b_use n.op) n.b) (new : Added y z r (copied_node map n)) where
-  pub is-proposition-copied : sort_of emitted_sorts n.op ≡ 1 → HasProposition z r (proposition_of (proposition_op n.op) n p)
+  pub is_proposition_copied : sort_of emitted_sorts n.op ≡ 1 → HasProposition z r (proposition_of (proposition_op n.op) n p)
   unfolding copied_node copied_as CopiedProposition
-  is-proposition-copied e =
-      (new-proposition new _ e
+  is_proposition_copied e =
+      (new_proposition new _ e
       (copied_proposition map n p (proposition_in z) n.op
       (λ u. (proposition_kept new.step (a.proposition u)).tree)
       (λ u. (proposition_kept new.step (b.proposition u)).tree))
       ).has
 
-  pub is-formula-copied : sort_of emitted_sorts n.op ≡ 2 → Has z r (formula_of (formula_op n.op) n p f)
+  pub is_formula_copied : sort_of emitted_sorts n.op ≡ 2 → Has z r (formula_of (formula_op n.op) n p f)
   unfolding copied_node copied_as CopiedFormula
-  is-formula-copied e =
-      (new-formula new _ e
+  is_formula_copied e =
+      (new_formula new _ e
       (copied_formula map n p (proposition_in z) f (formula_in z) n.op
       (λ u. (proposition_kept new.step (a.proposition u)).tree)
       (λ u. (has_kept new.step (a.formula u)).tree)

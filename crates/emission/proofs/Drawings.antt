@@ -12,8 +12,8 @@ use Rattle.semantics.proofs.Tests.{test}
 use Rattle.stored.specs.Sheet.{header_of}
 use Rattle.stored.specs.Tree.{symbol_of}
 use Rattle.plans.specs.Emission.{Ready}
-use Rattle.plans.proofs.Plans.{Tells, tells-within, everywhere-told, name-told, chop-told, and-told, or-told}
-use Rattle.plans.proofs.Plans.{point-told, stretch-told, unit-told, negated-told, signal-told, exactly-told, no-more-told, no-less-told}
+use Rattle.plans.proofs.Plans.{Tells, tells_within, everywhere_told, name_told, chop_told, and_told, or_told}
+use Rattle.plans.proofs.Plans.{point_told, stretch_told, unit_told, negated_told, signal_told, exactly_told, no_more_told, no_less_told}
 
 -- ---- symbols by number: 2 and 3 are one, and a number that is none stands for symbol 0
 pub either_is : (q : ℕ) → q / 2 ≡ 1 → symbol_of q ≡ either
@@ -38,24 +38,24 @@ low_is (suc (suc (suc (suc (suc (suc (suc (suc q)))))))) h₁ h₂ h₄ h₅ h�
 
 -- ---- what they tell
 module _ {y : List ℕ} (ready : Ready y) where
-  pub symbol-told : {k : ℕ} (s : Symbol) → k < (header_of y).signals → Tells y (undrawn_symbol s k) (undrawn_symbol s k) 12
+  pub symbol_told : {k : ℕ} (s : Symbol) → k < (header_of y).signals → Tells y (undrawn_symbol s k) (undrawn_symbol s k) 12
   unfolding undrawn_symbol
-  symbol-told low l = tells-within 12 (omega arith) (unit-told (negated-told (signal-told l)))
-  symbol-told high l = tells-within 12 (omega arith) (unit-told (signal-told l))
-  symbol-told either l = tells-within 12 (omega arith) (exactly-told (omega arith))
-  symbol-told low_stretch l = tells-within 12 (omega arith) (stretch-told (negated-told (signal-told l)))
-  symbol-told high_stretch l = tells-within 12 (omega arith) (stretch-told (signal-told l))
-  symbol-told either_stretch l = tells-within 12 (omega arith) (everywhere-told ready)
-  symbol-told steady l = tells-within 12 (omega arith) (or-told (stretch-told (negated-told (signal-told l))) (stretch-told (signal-told l)))
+  symbol_told low l = tells_within 12 (omega arith) (unit_told (negated_told (signal_told l)))
+  symbol_told high l = tells_within 12 (omega arith) (unit_told (signal_told l))
+  symbol_told either l = tells_within 12 (omega arith) (exactly_told (omega arith))
+  symbol_told low_stretch l = tells_within 12 (omega arith) (stretch_told (negated_told (signal_told l)))
+  symbol_told high_stretch l = tells_within 12 (omega arith) (stretch_told (signal_told l))
+  symbol_told either_stretch l = tells_within 12 (omega arith) (everywhere_told ready)
+  symbol_told steady l = tells_within 12 (omega arith) (or_told (stretch_told (negated_told (signal_told l))) (stretch_told (signal_told l)))
 
-  pub mark-told : {u : ℕ} → u < (header_of y).names → Tells y (undrawn_mark u) (undrawn_mark u) 12
+  pub mark_told : {u : ℕ} → u < (header_of y).names → Tells y (undrawn_mark u) (undrawn_mark u) 12
   unfolding undrawn_mark
-  mark-told l = tells-within 12 (omega arith) (and-told (exactly-told (omega arith)) (point-told (name-told ready l)))
+  mark_told l = tells_within 12 (omega arith) (and_told (exactly_told (omega arith)) (point_told (name_told ready l)))
 
-  pub gap-told : {u v least most : ℕ} → u < (header_of y).names → v < (header_of y).names → least < 65536 → most < 65536
+  pub gap_told : {u v least most : ℕ} → u < (header_of y).names → v < (header_of y).names → least < 65536 → most < 65536
       → Tells y (undrawn_gap u v least most) (undrawn_gap u v least most) 12
   unfolding undrawn_gap
-  gap-told l l' h h' =
-      let range = and-told (no-less-told ready h) (no-more-told h') in
-      let gap = and-told (point-told (name-told ready l)) range in
-      tells-within 12 (omega arith) (chop-told (everywhere-told ready) (chop-told gap (point-told (name-told ready l'))))
+  gap_told l l' h h' =
+      let range = and_told (no_less_told ready h) (no_more_told h') in
+      let gap = and_told (point_told (name_told ready l)) range in
+      tells_within 12 (omega arith) (chop_told (everywhere_told ready) (chop_told gap (point_told (name_told ready l'))))

@@ -16,7 +16,7 @@ use Rattle.plans.specs.Bound.{most_emitted}
 use Rattle.plans.specs.Emission.{count, Good, Step, HasProposition, Has, Emits, Shared}
 use Rattle.plans.specs.Plan.{node, op_name, op_length, op_count, q_below, q_equal, q_at_least, q_above, Put}
 use Rattle.plans.proofs.Steps.{steps, has_kept, proposition_kept, shared_kept, put_place}
-use Rattle.plans.proofs.Nodes.{length-new, name_new, count-new}
+use Rattle.plans.proofs.Nodes.{length_new, name_new, count_new}
 
 -- a length comes as the next node
 record Length (x y : List ℕ) (r q : ℕ) : Type 0 where
@@ -26,7 +26,7 @@ record Length (x y : List ℕ) (r q : ℕ) : Type 0 where
 length_next : {x y : List ℕ} {r : ℕ} (q : ℕ) → q < 5 → Good x → count x < most_emitted → Put (node op_length q 0 0) x y r → Length x y r q
 length_next q l good room put =
     record {
-      emits = length-new good room l (omega arith) put;
+      emits = length_new good room l (omega arith) put;
       place = put_place good room (omega arith) (omega arith) (omega arith) (omega arith) put;
     }
 
@@ -57,7 +57,7 @@ pub shared_next : {x y z : List ℕ} {p r : ℕ} (u : ℕ) → Shared x u → co
 shared_next {x} {y} {z} {p} {r} u h e less put put' =
     let few = h.good.few_names in
     let a = name_new h.good (omega arith) less put in
-    let b = count-new a.step.good (omega arith) a.has put' in
+    let b = count_new a.step.good (omega arith) a.has put' in
     let s = steps a.step b.step in
     let old = shared_kept u s h in
     let at : p ≡ count x

@@ -18,8 +18,8 @@ use Rattle.board.specs.declared.Opened.{Opened}
 use Rattle.board.specs.declared.Shown.TheVariants.{Nothing}
 use Rattle.board.specs.Board.{new_board, open_answer, feed_refusal, feed_answer, shown_of, with_cycle, next_board}
 use Rattle.board.proofs.Opening.{opened_number}
-use Rattle.board.proofs.Feeds.{refusal-unseen, answer-unseen, next-unseen, next-same, next_is}
-use Rattle.board.proofs.Answers.{sheet_small, feed-small, said-refused, said-checked}
+use Rattle.board.proofs.Feeds.{refusal_unseen, answer_unseen, next_unseen, next_same, next_is}
+use Rattle.board.proofs.Answers.{sheet_small, feed_small, said_refused, said_checked}
 use Rattle.exports.specs.Packed.{packed, unpacked, packed_table}
 use Rattle.exports.specs.Board.{shown_in, board_in, cell_after}
 use Rattle.exports.proofs.Unpacking.{back}
@@ -37,8 +37,8 @@ module _ (s : List ℕ) (o : Opened) (told : o ≡ open_answer s) (bytes cycles 
   number : o.refused ≡ sheet_refusal s
   number = ap (λ (x : Opened). x.refused) told ∙ opened_number s
 
-  pub opened-small : o.refused < 100
-  opened-small = let small = sheet_small s in omega (arith, number)
+  pub opened_small : o.refused < 100
+  opened_small = let small = sheet_small s in omega (arith, number)
 
   pub open_kept : (o.refused ≡ 0 → ⊥) → Leaves (o.refused * 256) bytes cycles taken verdict
   unfolding packed_table cell_after pick
@@ -46,9 +46,9 @@ module _ (s : List ℕ) (o : Opened) (told : o ≡ open_answer s) (bytes cycles 
       let f : eqb (sheet_refusal s) 0 ≡ false = ap (λ (n : ℕ). eqb n 0) (sym number) ∙ ne_eqb o.refused 0 h in
       (rw f (ap (λ (n : ℕ). n * 256) number), (rw f, (rw f, (rw f, rw f))))
 
-  pub open-put : o.refused ≡ 0 → Leaves 4 o.board.sheet o.board.cycles o.board.taken 0
+  pub open_put : o.refused ≡ 0 → Leaves 4 o.board.sheet o.board.cycles o.board.taken 0
   unfolding packed_table cell_after open_answer new_board pick
-  open-put h =
+  open_put h =
       let none : sheet_refusal s ≡ 0 = sym number ∙ h in
       (rw none, (rw (told, none), (rw (told, none), (rw (told, none), rw none))))
 
@@ -61,13 +61,13 @@ module _ (bytes cycles : List ℕ) (taken verdict cycle : ℕ) (words : List ℕ
   abbrev pub bare : Board
   bare = record { sheet = bytes; cycles = cycles; taken = taken; verdict = Nothing }
 
-  bare-refusal : feed_refusal bare cycle words ≡ feed_refusal here cycle words
+  bare_refusal : feed_refusal bare cycle words ≡ feed_refusal here cycle words
   unfolding board_in
-  bare-refusal = refusal-unseen here Nothing cycle words
+  bare_refusal = refusal_unseen here Nothing cycle words
 
-  bare-answer : feed_answer bare cycle words ≡ feed_answer here cycle words
+  bare_answer : feed_answer bare cycle words ≡ feed_answer here cycle words
   unfolding board_in
-  bare-answer = answer-unseen here Nothing cycle words
+  bare_answer = answer_unseen here Nothing cycle words
 
   -- what is answered, and what the cells and the words hold
   abbrev Feeds : ℕ → List ℕ → ℕ → ℕ → List ℕ → Type 0
@@ -79,35 +79,35 @@ module _ (bytes cycles : List ℕ) (taken verdict cycle : ℕ) (words : List ℕ
 
   module _ (answer : Answer) (words' : List ℕ) (told : answer ≡ feed_answer bare cycle words) (left : words' ≡ words_after (feed_refusal bare cycle words) words) where
     left_here : words' ≡ words_after (feed_refusal here cycle words) words
-    left_here = left ∙ ap (λ (n : ℕ). words_after n words) bare-refusal
+    left_here = left ∙ ap (λ (n : ℕ). words_after n words) bare_refusal
 
     said : answer ≡ feed_answer here cycle words
-    said = told ∙ bare-answer
+    said = told ∙ bare_answer
 
     read_back : (r : ℕ) → r ≡ packed answer → unpacked r ≡ feed_answer here cycle words
-    read_back r e = ap unpacked (e ∙ ap packed said) ∙ back (feed_answer here cycle words) (feed-small here cycle words)
+    read_back r e = ap unpacked (e ∙ ap packed said) ∙ back (feed_answer here cycle words) (feed_small here cycle words)
 
     pub refused_small : (n : ℕ) → answer ≡ Refused n → n < 100
-    refused_small n e = subst (λ (x : Answer). Small x) (sym told ∙ e) (feed-small bare cycle words)
+    refused_small n e = subst (λ (x : Answer). Small x) (sym told ∙ e) (feed_small bare cycle words)
 
-    pub checked-small : (v : Verdict) → answer ≡ Checked v → SmallVerdict v
-    checked-small v e = subst (λ (x : Answer). Small x) (sym told ∙ e) (feed-small bare cycle words)
+    pub checked_small : (v : Verdict) → answer ≡ Checked v → SmallVerdict v
+    checked_small v e = subst (λ (x : Answer). Small x) (sym told ∙ e) (feed_small bare cycle words)
 
-    pub feed-kept : (n : ℕ) → answer ≡ Refused n → Feeds (n * 256) cycles taken verdict words'
+    pub feed_kept : (n : ℕ) → answer ≡ Refused n → Feeds (n * 256) cycles taken verdict words'
     unfolding packed cell_after pick
-    feed-kept n e =
-        let f = (said-refused here cycle words n (sym said ∙ e)).0 in
+    feed_kept n e =
+        let f = (said_refused here cycle words n (sym said ∙ e)).0 in
         let number : n * 256 ≡ packed answer = sym (ap packed e) in
-        (number ∙ ap packed said, (read_back (n * 256) number, (sym (next-same here cycle words f), (rw f, left_here))))
+        (number ∙ ap packed said, (read_back (n * 256) number, (sym (next_same here cycle words f), (rw f, left_here))))
 
-    pub feed-put : (v : Verdict) (r : ℕ) (next : Board) → answer ≡ Checked v → r ≡ packed (Checked v) → next ≡ next_board bare cycle words
+    pub feed_put : (v : Verdict) (r : ℕ) (next : Board) → answer ≡ Checked v → r ≡ packed (Checked v) → next ≡ next_board bare cycle words
         → Feeds r next.cycles next.taken r words'
     unfolding cell_after pick board_in shown_in with_cycle
-    feed-put v r next e packs ahead =
-        let none = said-checked here cycle words v (sym said ∙ e) in
+    feed_put v r next e packs ahead =
+        let none = said_checked here cycle words v (sym said ∙ e) in
         let number : r ≡ packed answer = packs ∙ sym (ap packed e) in
         let shown = read_back r number in
-        let same : next ≡ next_board here cycle words = ahead ∙ next-unseen here Nothing cycle words none in
+        let same : next ≡ next_board here cycle words = ahead ∙ next_unseen here Nothing cycle words none in
         (number ∙ ap packed said, (shown, (stands none shown same, (rw none, left_here))))
       where
         stands : feed_refusal here cycle words ≡ 0 → unpacked r ≡ feed_answer here cycle words → next ≡ next_board here cycle words

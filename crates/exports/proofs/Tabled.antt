@@ -15,7 +15,7 @@ use Rattle.stored.specs.Bytes.{lowest}
 use Rattle.stored.specs.Sheet.{header_of, sheet_refusal}
 use Rattle.traces.specs.Trace.{trace_refusal}
 use Rattle.stored.specs.Tree.{pick}
-use Rattle.stored.proofs.Rules.{length-inOrder}
+use Rattle.stored.proofs.Rules.{length_in_order}
 use Rattle.checker.specs.declared.table.TableAnswer.{TableAnswer}
 use Rattle.checker.specs.Table.{or_else, words_refusal, table_refusal, table_of, answer_for, table_answer, words_after}
 use Rattle.checker.proofs.Bounds.{table_small}
@@ -40,7 +40,7 @@ put_all b f d e l =
 -- ---- the table's answer
 table_long : (s t : List ℕ) (node p0 p1 p2 : ℕ) → length (rows_of s t node p0 p1 p2) ≡ 64
 unfolding rows_of table_of
-table_long s t node p0 p1 p2 = length-inOrder 64 _
+table_long s t node p0 p1 p2 = length_in_order 64 _
 
 picked_long : (b : Bool) (table : List ℕ) → length table ≡ 64 → length (pick b table (replicate 64 0)) ≡ 64
 unfolding pick

@@ -1,5 +1,7 @@
 // The check, the table, the translator, the reader of typed sheets and the board for programs in Rust and C: over numbers, arrays and slices
 // only, and with nothing to ask of the caller.
+#![tactic(auto)]
+
 pub mod boards;
 
 ghost use Rattle.std.specs.Prelude.{◌≡◌, ◌++◌, ◌*◌, ◌≤◌, ◌<◌, length, drop};

@@ -11,12 +11,12 @@ use lib.ListN.{length}
 use borrow.Author.Tests.{leb-true, ne_eqb, eqb-true, eqb-false}
 use Rattle.semantics.proofs.Tests.{test, and_left, and_right}
 use Rattle.grammar.specs.Token.{Token, plain, signalled, named, number, outside, open_round, close_round, star_sign}
-use Rattle.grammar.specs.Tree.{OrF, oneF, orF, chainF, andF, unitF, chopF, UnitF, pointF, stretchF, wholeF, braceF, slenF, scountF, sdurF, drawF, atF, gapF, bracketF, starF}
+use Rattle.grammar.specs.Tree.{OrF, one_f, or_f, chain_f, and_f, unit_f, chop_f, UnitF, pointF, stretchF, wholeF, braceF, slen_f, scountF, sdurF, draw_f, at_f, gap_f, bracketF, starF}
 use Rattle.grammar.specs.Reader.{no_or_f, after_or_f, no_and_f, after_and_f, HoleF, no_chop_f, after_chop_f, State, failed, sign, about_or_f, has_or_f, has_unit_f, starred, if_plain, step, if_room, room_after, run, answer}
 use Rattle.grammar.proofs.Said.{computing}
 use Rattle.grammar.proofs.Room.{failed_none, stuck_none}
-use Rattle.grammar.proofs.Next.{or_f, and_f, chop_f, star_f}
-use Rattle.typed.specs.Draft.{Draft, draft, last, node, put_over, putOrF, putAndF, putChopF, putUnitF}
+use Rattle.grammar.proofs.Next.{or_f_lem, and_f_lem, chop_f_lem, star_f}
+use Rattle.typed.specs.Draft.{Draft, draft, last, node, put_over, put_or_f, put_and_f, put_chop_f, put_unit_f}
 use Rattle.propositions.specs.declared.Got.{Got}
 use Rattle.propositions.specs.declared.leaf.Leaf.{Leaf}
 use Rattle.propositions.specs.declared.leaf.Lexeme.{Lexeme}
@@ -26,7 +26,7 @@ use Rattle.propositions.specs.Reads.{ahead, sign_of, Leafs, Ready, Reads, Then, 
 use Rattle.formulas.specs.Pieces.{about_bounded, put_bounded, about_slen, put_slen, about_counted, put_counted, about_draw, put_draw, about_at, put_at, about_gap, put_gap, Place, about_level, has_level, put_level, Taken, about_piece, about_bracket_f, ReadsLevel, ReadsPiece}
 use Rattle.propositions.proofs.Chains.{Chain}
 use Rattle.propositions.proofs.Steps.{sign_run}
-use Rattle.propositions.proofs.Went.{Went, went_at, Told, told_bracket, closes-none, closes-from, closes-told, closes-put}
+use Rattle.propositions.proofs.Went.{Went, went_at, Told, told_bracket, closes_none, closes_from, closes_told, closes_put}
 
 -- a star after a piece
 star_next : (h : HoleF) (u : UnitF) (k : OrF → State) → step (has_unit_f h k u) (plain star_sign) ≡ starred u (has_unit_f h k)
@@ -49,11 +49,11 @@ star_none w u room n ts bare taken = elim taken [
 
 module _ {room : ℕ} {text : List ℕ} {at : ℕ} {x : List ℕ} {count : ℕ} {y : List ℕ} {r : Got} where
   -- a piece that is the unit u of what was read
-  closes-piece : {T : Type 0} (word : ℕ) (about : (T → State) → State) (put : T → Draft → Draft) (u : T → UnitF)
-      → ((w : Place 0) → about_piece word w ≡ about (λ t. has_unit_f w.0 w.1 (u t))) → ((t : T) (d : Draft) → put t d ≡ putUnitF (u t) d)
+  closes_piece : {T : Type 0} (word : ℕ) (about : (T → State) → State) (put : T → Draft → Draft) (u : T → UnitF)
+      → ((w : Place 0) → about_piece word w ≡ about (λ t. has_unit_f w.0 w.1 (u t))) → ((t : T) (d : Draft) → put t d ≡ put_unit_f (u t) d)
       → ((t : T) (k : UnitF → State) → starred (u t) k ≡ failed) → Reads about next put room text at x count y r
       → ReadsPiece (about_piece word) room text at x count y r
-  closes-piece word about put u same puts bare reads =
+  closes_piece word about put u same puts bare reads =
       record {
         reads =
             record {
@@ -73,65 +73,65 @@ module _ {room : ℕ} {text : List ℕ} {at : ℕ} {x : List ℕ} {count : ℕ} 
         stops = λ ok w n ts taken there. star_none w (u (reads.took ok).tree) room n ts (bare (reads.took ok).tree) taken;
       }
 
-  pub point-closes : {word : ℕ} → word ≡ 17 → Reads (about_bounded 21) next (put_bounded 16) room text at x count y r
+  pub point_closes : {word : ℕ} → word ≡ 17 → Reads (about_bounded 21) next (put_bounded 16) room text at x count y r
       → ReadsPiece (about_piece word) room text at x count y r
-  unfolding computing putUnitF
-  point-closes {word = word} e = closes-piece word (about_bounded 21) (put_bounded 16) pointF (λ w. rw e) (λ t d. refl) (λ t k. refl)
+  unfolding computing put_unit_f
+  point_closes {word = word} e = closes_piece word (about_bounded 21) (put_bounded 16) pointF (λ w. rw e) (λ t d. refl) (λ t k. refl)
 
-  pub stretch-closes : {word : ℕ} → word ≡ 24 → Reads (about_bounded 25) next (put_bounded 17) room text at x count y r
+  pub stretch_closes : {word : ℕ} → word ≡ 24 → Reads (about_bounded 25) next (put_bounded 17) room text at x count y r
       → ReadsPiece (about_piece word) room text at x count y r
-  unfolding computing putUnitF
-  stretch-closes {word = word} e = closes-piece word (about_bounded 25) (put_bounded 17) stretchF (λ w. rw e) (λ t d. refl) (λ t k. refl)
+  unfolding computing put_unit_f
+  stretch_closes {word = word} e = closes_piece word (about_bounded 25) (put_bounded 17) stretchF (λ w. rw e) (λ t d. refl) (λ t k. refl)
 
-  pub whole-closes : {word : ℕ} → word ≡ 26 → Reads (about_bounded 27) next (put_bounded 18) room text at x count y r
+  pub whole_closes : {word : ℕ} → word ≡ 26 → Reads (about_bounded 27) next (put_bounded 18) room text at x count y r
       → ReadsPiece (about_piece word) room text at x count y r
-  unfolding computing putUnitF
-  whole-closes {word = word} e = closes-piece word (about_bounded 27) (put_bounded 18) wholeF (λ w. rw e) (λ t d. refl) (λ t k. refl)
+  unfolding computing put_unit_f
+  whole_closes {word = word} e = closes_piece word (about_bounded 27) (put_bounded 18) wholeF (λ w. rw e) (λ t d. refl) (λ t k. refl)
 
-  pub brace-closes : {word : ℕ} → word ≡ 28 → Reads (about_bounded 29) next (put_bounded 19) room text at x count y r
+  pub brace_closes : {word : ℕ} → word ≡ 28 → Reads (about_bounded 29) next (put_bounded 19) room text at x count y r
       → ReadsPiece (about_piece word) room text at x count y r
-  unfolding computing putUnitF
-  brace-closes {word = word} e = closes-piece word (about_bounded 29) (put_bounded 19) braceF (λ w. rw e) (λ t d. refl) (λ t k. refl)
+  unfolding computing put_unit_f
+  brace_closes {word = word} e = closes_piece word (about_bounded 29) (put_bounded 19) braceF (λ w. rw e) (λ t d. refl) (λ t k. refl)
 
-  pub scount-closes : {word : ℕ} → word ≡ 12 → Reads about_counted next (put_counted 25) room text at x count y r
+  pub scount_closes : {word : ℕ} → word ≡ 12 → Reads about_counted next (put_counted 25) room text at x count y r
       → ReadsPiece (about_piece word) room text at x count y r
-  unfolding computing putUnitF
-  scount-closes {word = word} e =
-      closes-piece word about_counted (put_counted 25) (λ t. scountF t.0 t.1 t.2) (λ w. rw e) (λ t d. refl) (λ t k. refl)
+  unfolding computing put_unit_f
+  scount_closes {word = word} e =
+      closes_piece word about_counted (put_counted 25) (λ t. scountF t.0 t.1 t.2) (λ w. rw e) (λ t d. refl) (λ t k. refl)
 
-  pub sdur-closes : {word : ℕ} → word ≡ 13 → Reads about_counted next (put_counted 26) room text at x count y r
+  pub sdur_closes : {word : ℕ} → word ≡ 13 → Reads about_counted next (put_counted 26) room text at x count y r
       → ReadsPiece (about_piece word) room text at x count y r
-  unfolding computing putUnitF
-  sdur-closes {word = word} e =
-      closes-piece word about_counted (put_counted 26) (λ t. sdurF t.0 t.1 t.2) (λ w. rw e) (λ t d. refl) (λ t k. refl)
+  unfolding computing put_unit_f
+  sdur_closes {word = word} e =
+      closes_piece word about_counted (put_counted 26) (λ t. sdurF t.0 t.1 t.2) (λ w. rw e) (λ t d. refl) (λ t k. refl)
 
-  pub slen-closes : {word : ℕ} → word ≡ 11 → Reads about_slen next put_slen room text at x count y r
+  pub slen_closes : {word : ℕ} → word ≡ 11 → Reads about_slen next put_slen room text at x count y r
       → ReadsPiece (about_piece word) room text at x count y r
   unfolding computing
-  slen-closes {word = word} e = closes-piece word about_slen put_slen (λ t. slenF t.0 t.1) (λ w. rw e) (λ t d. refl) (λ t k. refl)
+  slen_closes {word = word} e = closes_piece word about_slen put_slen (λ t. slen_f t.0 t.1) (λ w. rw e) (λ t d. refl) (λ t k. refl)
 
-  pub draw-closes : {word : ℕ} → word ≡ 14 → Reads about_draw next put_draw room text at x count y r
+  pub draw_closes : {word : ℕ} → word ≡ 14 → Reads about_draw next put_draw room text at x count y r
       → ReadsPiece (about_piece word) room text at x count y r
   unfolding computing
-  draw-closes {word = word} e = closes-piece word about_draw put_draw (λ t. drawF t.0 t.1) (λ w. rw e) (λ t d. refl) (λ t k. refl)
+  draw_closes {word = word} e = closes_piece word about_draw put_draw (λ t. draw_f t.0 t.1) (λ w. rw e) (λ t d. refl) (λ t k. refl)
 
-  pub at-closes : {word : ℕ} → word ≡ 15 → Reads about_at next put_at room text at x count y r
+  pub at_closes : {word : ℕ} → word ≡ 15 → Reads about_at next put_at room text at x count y r
       → ReadsPiece (about_piece word) room text at x count y r
   unfolding computing
-  at-closes {word = word} e = closes-piece word about_at put_at atF (λ w. rw e) (λ t d. refl) (λ t k. refl)
+  at_closes {word = word} e = closes_piece word about_at put_at at_f (λ w. rw e) (λ t d. refl) (λ t k. refl)
 
-  pub gap-closes : {word : ℕ} → word ≡ 16 → Reads about_gap next put_gap room text at x count y r
+  pub gap_closes : {word : ℕ} → word ≡ 16 → Reads about_gap next put_gap room text at x count y r
       → ReadsPiece (about_piece word) room text at x count y r
   unfolding computing
-  gap-closes {word = word} e = closes-piece word about_gap put_gap (λ t. gapF t.0 t.1 t.2 t.3) (λ w. rw e) (λ t d. refl) (λ t k. refl)
+  gap_closes {word = word} e = closes_piece word about_gap put_gap (λ t. gap_f t.0 t.1 t.2 t.3) (λ w. rw e) (λ t d. refl) (λ t k. refl)
 
   -- no piece begins with this word or sign
-  pub other-closes : {word : ℕ} → (word ≡ 17 → ⊥) → (word ≡ 24 → ⊥) → (word ≡ 26 → ⊥) → (word ≡ 28 → ⊥) → (word ≡ 11 → ⊥) → (word ≡ 12 → ⊥)
+  pub other_closes : {word : ℕ} → (word ≡ 17 → ⊥) → (word ≡ 24 → ⊥) → (word ≡ 26 → ⊥) → (word ≡ 28 → ⊥) → (word ≡ 11 → ⊥) → (word ≡ 12 → ⊥)
       → (word ≡ 13 → ⊥) → (word ≡ 14 → ⊥) → (word ≡ 15 → ⊥) → (word ≡ 16 → ⊥) → (word ≡ 22 → ⊥) → r.ok ≡ false → length y ≡ length x
       → ReadsPiece (about_piece word) room text at x count y r
   unfolding computing
-  other-closes {word = word} h₁ h₂ h₃ h₄ h₅ h₆ h₇ h₈ h₉ h₁₀ h₁₁ not size =
-      closes-none not
+  other_closes {word = word} h₁ h₂ h₃ h₄ h₅ h₆ h₇ h₈ h₉ h₁₀ h₁₁ not size =
+      closes_none not
       (λ w.
       rw (ne_eqb word 17 h₁, ne_eqb word 24 h₂, ne_eqb word 26 h₃, ne_eqb word 28 h₄, ne_eqb word 11 h₅, ne_eqb word 12 h₆)
       (rw (ne_eqb word 13 h₇, ne_eqb word 14 h₈, ne_eqb word 15 h₉, ne_eqb word 16 h₁₀, ne_eqb word 22 h₁₁) (failed_none room (ahead text at))))
@@ -149,7 +149,7 @@ one l n (inr h) = elim (test (eqb n (32 - l))) [
 pub level_chain : (l : ℕ) → (l ≡ 0 → ⊥) → l ≤ 3
     → Chain (20 + (l - 1)) (32 - (l - 1)) (about_level l) (has_level l) (put_level l) (Taken l)
     (about_level (l - 1)) (has_level (l - 1)) (put_level (l - 1)) (Taken (l - 1))
-unfolding computing putChopF putAndF putOrF
+unfolding computing put_chop_f put_and_f put_or_f
 level_chain zero some h = absurd (some refl)
 level_chain (suc zero) some h =
     record {
@@ -157,13 +157,13 @@ level_chain (suc zero) some h =
       taken = λ n t. one 0 n t;
       passes = λ room s ts. refl;
       first = λ w. (no_chop_f w.0, w.1);
-      single = unitF;
+      single = unit_f;
       first_about = λ w. refl;
       first_has = λ w u. refl;
       first_puts = λ u d. refl;
       next = λ w c. (after_chop_f w.0 c, w.1);
-      joined = chopF;
-      next_about = λ room w c ts. chop_f room w.0 w.1 c ts;
+      joined = chop_f;
+      next_about = λ room w c ts. chop_f_lem room w.0 w.1 c ts;
       next_has = λ w c u. refl;
       next_puts = λ c u d. refl;
     }
@@ -173,13 +173,13 @@ level_chain (suc (suc zero)) some h =
       taken = λ n t. one 1 n t;
       passes = λ room s ts. refl;
       first = λ w. (no_and_f w.0, w.1);
-      single = chainF;
+      single = chain_f;
       first_about = λ w. refl;
       first_has = λ w u. refl;
       first_puts = λ u d. refl;
       next = λ w g. (after_and_f w.0 g, w.1);
-      joined = andF;
-      next_about = λ room w g ts. and_f room w.0 w.1 g ts;
+      joined = and_f;
+      next_about = λ room w g ts. and_f_lem room w.0 w.1 g ts;
       next_has = λ w g u. refl;
       next_puts = λ g u d. refl;
     }
@@ -189,13 +189,13 @@ level_chain (suc (suc (suc zero))) some h =
       taken = λ n t. one 2 n t;
       passes = λ room s ts. refl;
       first = λ w. (no_or_f, w.1);
-      single = oneF;
+      single = one_f;
       first_about = λ w. refl;
       first_has = λ w u. refl;
       first_puts = λ u d. refl;
       next = λ w f. (after_or_f f, w.1);
-      joined = orF;
-      next_about = λ room w f ts. or_f room w.1 f ts;
+      joined = or_f;
+      next_about = λ room w f ts. or_f_lem room w.1 f ts;
       next_has = λ w f u. refl;
       next_puts = λ f u d. refl;
     }
@@ -251,7 +251,7 @@ follow f k room (number n ∷ ts) stops = refl
 follow f k room (outside ∷ ts) stops = refl
 
 pub formula_reads : {room : ℕ} {text : List ℕ} {at : ℕ} {x : List ℕ} {count : ℕ} {y : List ℕ} {r : Got}
-    → ReadsLevel 3 room text at x count y r → Reads before_f after putOrF room text at x count y r
+    → ReadsLevel 3 room text at x count y r → Reads before_f after put_or_f room text at x count y r
 formula_reads {room = room} {text = text} {r = r} closes =
     let reads = closes.reads in
     record {
@@ -295,31 +295,31 @@ word_first {text = text} {first = first} lexes e = elim (lexes.told refl) [
 ]
 
 module _ {room : ℕ} {text : List ℕ} {at : ℕ} {x : List ℕ} {count : ℕ} {y : List ℕ} {r : Got} {first : Lexeme} (lexes : Lexes text true at first) where
-  pub term-piece : first.tag ≡ 0 → (first.value ≡ 22 → ⊥) → ReadsPiece (about_piece first.value) room text first.at x count y r
+  pub term_piece : first.tag ≡ 0 → (first.value ≡ 22 → ⊥) → ReadsPiece (about_piece first.value) room text first.at x count y r
       → ReadsLevel 0 room text at x count y r
-  term-piece e h closes =
+  term_piece e h closes =
       let there = word_first lexes e in
       let further = lexes.onward (omega arith) in
-      closes-from (omega arith)
+      closes_from (omega arith)
       (λ w.
       ap (λ ts. answer (run room (about_level 0 w) ts)) there ∙ enter w first.value room (ahead text first.at) h)
       closes
 
-  pub term-bracket : first.tag ≡ 0 → first.value ≡ 22 → ReadsPiece about_bracket_f room text at x count y r
+  pub term_bracket : first.tag ≡ 0 → first.value ≡ 22 → ReadsPiece about_bracket_f room text at x count y r
       → ReadsLevel 0 room text at x count y r
-  term-bracket e h closes =
+  term_bracket e h closes =
       let there = word_first lexes e ∙ ap (λ n. plain n ∷ ahead text first.at) h in
-      closes-from (omega arith)
+      closes_from (omega arith)
       (λ w.
       ap (λ ts. answer (run room (about_level 0 w) ts)) there ∙ ap answer (bracket_first w room (ahead text first.at))
       ∙ ap (λ ts. answer (run room (about_bracket_f w) ts)) (sym there))
       closes
 
-  pub term-none : (first.tag ≡ 0 → ⊥) → r.ok ≡ false → length y ≡ length x
+  pub term_none : (first.tag ≡ 0 → ⊥) → r.ok ≡ false → length y ≡ length x
       → ReadsLevel 0 room text at x count y r
   unfolding computing token_as
-  term-none h not size =
-      closes-none not
+  term_none h not size =
+      closes_none not
       (λ w. elim (lexes.told refl) [
         | inl there ↦ ap (λ ts. answer (run room (about_level 0 w) ts)) there.0 ∙ no_word w first.tag first.value (ahead text first.at) h
         | inr end ↦ ap (λ ts. answer (run room (about_level 0 w) ts)) end.0
@@ -338,19 +338,19 @@ module _ {room : ℕ} {text : List ℕ} {at : ℕ} {x : List ℕ} {count : ℕ} 
 pub bracket_none : {text : List ℕ} {at depth : ℕ} {x : List ℕ} {count : ℕ} {y : List ℕ} {r : Got} {opening : Leaf} → Opens text at depth opening
     → opening.ok ≡ false → r.ok ≡ false → length y ≡ length x → ReadsPiece about_bracket_f depth text at x count y r
 bracket_none opened shut not size =
-    closes-none not (λ w. opened.fails shut (about_or_f (λ f. sign close_round (has_unit_f w.0 w.1 (bracketF f))))) size
+    closes_none not (λ w. opened.fails shut (about_or_f (λ f. sign close_round (has_unit_f w.0 w.1 (bracketF f))))) size
 
 module _ {text : List ℕ} {at depth : ℕ} {x : List ℕ} {count : ℕ} {z : List ℕ} {opening closing star : Leaf} {inner : Got}
     (ready : Ready text at x count) (ok : opening.ok ≡ true) (opened : Opens text at depth opening)
-    (reads : Reads before_f after putOrF (depth - 1) text opening.at x count z inner)
+    (reads : Reads before_f after put_or_f (depth - 1) text opening.at x count z inner)
     (leaf : Leafs (sign_of close_round) (sign close_round) text inner.ok inner.at closing)
     (leaf' : Leafs (sign_of star_sign) (sign star_sign) text closing.ok closing.at star) where
   -- up to the closing bracket
   abbrev closed : Got
   closed = record { ok = closing.ok; at = closing.at; count = inner.count }
 
-  inside : Told (λ (k : OrF → State). sign open_round (about_or_f (λ f. sign close_round (k f)))) next putOrF depth text at x count z closed
-  inside = told_bracket about_or_f (oneF (chainF (unitF (atF 0)))) ok opened reads leaf
+  inside : Told (λ (k : OrF → State). sign open_round (about_or_f (λ f. sign close_round (k f)))) next put_or_f depth text at x count z closed
+  inside = told_bracket about_or_f (one_f (chain_f (unit_f (at_f 0)))) ok opened reads leaf
 
   bracketed : Went about_bracket_f depth text at closing.ok depth closing.at (λ w. has_level 0 w (bracketF inside.tree))
   bracketed =
@@ -358,12 +358,12 @@ module _ {text : List ℕ} {at depth : ℕ} {x : List ℕ} {count : ℕ} {z : Li
       went_at onto inside.went
 
   -- no star follows
-  pub bracket-bare : star.ok ≡ false
+  pub bracket_bare : star.ok ≡ false
       → ReadsPiece about_bracket_f depth text at x count z
       (record { ok = closing.ok; at = closing.at; count = inner.count })
-  unfolding putUnitF
-  bracket-bare bare =
-      closes-told
+  unfolding put_unit_f
+  bracket_bare bare =
+      closes_told
       (record {
         tree = bracketF inside.tree;
         went = bracketed;
@@ -385,9 +385,9 @@ module _ {text : List ℕ} {at depth : ℕ} {x : List ℕ} {count : ℕ} {z : Li
 
   module _ (starry : star.ok ≡ true) where
     -- the star's node can be put
-    pub star-puttable : length text < 18446744073709551615
+    pub star_puttable : length text < 18446744073709551615
         → Puttable (record { ok = true; at = star.at; count = inner.count }) (node 23 0 (inner.count - 1) 0) z
-    star-puttable long =
+    star_puttable long =
         let e = leaf'.well starry in
         let h = inside.taken e in
         let h' = inside.went.within e in
@@ -397,17 +397,17 @@ module _ {text : List ℕ} {at depth : ℕ} {x : List ℕ} {count : ℕ} {z : Li
           fits = λ _ few. record { op_fits = omega arith; q_fits = omega arith; a_fits = omega arith; b_fits = omega arith };
         }
 
-    pub bracket-star : {y : List ℕ} {r : Got}
+    pub bracket_star : {y : List ℕ} {r : Got}
         → NodePut (record { ok = true; at = star.at; count = inner.count }) (node 23 0 (inner.count - 1) 0) z y r
         → ReadsPiece about_bracket_f depth text at x count y r
-    unfolding computing putUnitF put_over last
-    bracket-star p =
+    unfolding computing put_unit_f put_over last
+    bracket_star p =
         let e = leaf'.well starry in
         let more = inside.more e in
         let taken = inside.taken e in
         let onward = inside.onward e in
         let h = leaf'.onward starry in
-        closes-put (starF inside.tree)
+        closes_put (starF inside.tree)
         (record {
           goes = λ _ w.
               bracketed.goes e w ∙ ap (λ ts. answer (run depth (has_level 0 w (bracketF inside.tree)) ts)) (leaf'.next starry)

@@ -11,9 +11,9 @@ use Rattle.stored.specs.declared.Node.{Node}
 use Rattle.stored.specs.Tree.{comparison_of}
 use Rattle.stored.specs.Written.{NodeFits}
 use Rattle.grammar.specs.Token.{number, named, signalled, close_round, comma_sign}
-use Rattle.grammar.specs.Tree.{OrP, oneP, unitP, trueP, slenF, drawF}
+use Rattle.grammar.specs.Tree.{OrP, one_p, unit_p, trueP, slen_f, draw_f}
 use Rattle.grammar.specs.Reader.{State, sign, a_number, a_name, a_signal, a_comparison}
-use Rattle.typed.specs.Draft.{Draft, draft, last, node, put, put_over, comparison_number, in_byte, putOrP, putUnitF}
+use Rattle.typed.specs.Draft.{Draft, draft, last, node, put, put_over, comparison_number, in_byte, put_or_p, put_unit_f}
 use Rattle.propositions.specs.declared.Got.{Got}
 use Rattle.propositions.specs.declared.leaf.Leaf.{Leaf}
 use Rattle.propositions.specs.declared.leaf.Lexeme.{Lexeme}
@@ -23,7 +23,7 @@ use Rattle.propositions.specs.Reads.{sign_of, comparison_token, Leafs, Ready, Re
 use Rattle.propositions.specs.Propositions.{about_bracket_p}
 use Rattle.formulas.specs.Pieces.{about_bounded, put_bounded, about_slen, about_counted, put_counted, about_draw, about_at, about_gap}
 use Rattle.propositions.proofs.Steps.{sign_run, comma_run, close_back, number_run, name_run, signal_run, comparison_run}
-use Rattle.propositions.proofs.Went.{Went, went_none, went_leaf, further, went_open, went_at, told, reads-put}
+use Rattle.propositions.proofs.Went.{Went, went_none, went_leaf, further, went_open, went_at, told, reads_put}
 
 -- a comparison by its number, and back
 pub compared : (q : ℕ) → q ≤ 4 → comparison_number (comparison_of q) ≡ q
@@ -35,12 +35,12 @@ compared (suc (suc (suc zero))) h = refl
 compared (suc (suc (suc (suc zero)))) h = refl
 compared (suc (suc (suc (suc (suc q))))) h = absurd (omega arith)
 
-pub slen_same : (q n : ℕ) (d : Draft) → q ≤ 4 → put (node 24 q 0 n) d ≡ putUnitF (slenF (comparison_of q) n) d
-unfolding putUnitF
+pub slen_same : (q n : ℕ) (d : Draft) → q ≤ 4 → put (node 24 q 0 n) d ≡ put_unit_f (slen_f (comparison_of q) n) d
+unfolding put_unit_f
 slen_same q n d h = rw (compared q h)
 
-pub draw_same : (q i b : ℕ) (d : Draft) → b ≡ in_byte q → put (node 27 b i 0) d ≡ putUnitF (drawF q i) d
-unfolding putUnitF
+pub draw_same : (q i b : ℕ) (d : Draft) → b ≡ in_byte q → put (node 27 b i 0) d ≡ put_unit_f (draw_f q i) d
+unfolding put_unit_f
 draw_same q i b d e = rw e
 
 -- after a word
@@ -52,16 +52,16 @@ word_ready ready lexes e =
 
 module _ {text : List ℕ} {at depth : ℕ} {x : List ℕ} {count : ℕ} (ready : Ready text at x count) where
   -- a proposition, its closing sign and its node
-  pub bounded-reads : {close op : ℕ} {inner : Got} {end : Leaf} {z y : List ℕ} {r : Got} → close < 30 → (close ≡ 22 → ⊥) → (close ≡ 23 → ⊥)
-      → Reads before_p after putOrP depth text at x count z inner → Leafs (sign_of close) (sign close) text inner.ok inner.at end
+  pub bounded_reads : {close op : ℕ} {inner : Got} {end : Leaf} {z y : List ℕ} {r : Got} → close < 30 → (close ≡ 22 → ⊥) → (close ≡ 23 → ⊥)
+      → Reads before_p after put_or_p depth text at x count z inner → Leafs (sign_of close) (sign close) text inner.ok inner.at end
       → NodePut (record { ok = end.ok; at = end.at; count = inner.count }) (node op 0 (inner.count - 1) 0) z y r
       → Reads (about_bounded close) next (put_bounded op) depth text at x count y r
   unfolding put_over last
-  bounded-reads {close = close} {op = op} h h₁ h₂ reads leaf p =
-      let t = told (oneP (unitP trueP)) reads in
+  bounded_reads {close = close} {op = op} h h₁ h₂ reads leaf p =
+      let t = told (one_p (unit_p trueP)) reads in
       let w₁ = went_at (λ (k : OrP → State). record { wanted = close; closing = inl h; onto = k }) t.went in
       let w₂ = went_leaf (λ k. k t.tree) depth (λ k. k t.tree) w₁ leaf (λ _ k ts. sign_run close depth _ ts h₁ h₂) in
-      reads-put t.tree w₂ p
+      reads_put t.tree w₂ p
       (λ e. ap (put_over op 0 0) (t.drafted (leaf.well e)))
       (λ e.
       let a = t.more (leaf.well e) in
@@ -71,10 +71,10 @@ module _ {text : List ℕ} {at depth : ℕ} {x : List ℕ} {count : ℕ} (ready 
       (p.size ∙ reads.size)
 
   -- the proposition and its closing sign leave room for the node
-  pub bounded-puttable : {close op : ℕ} {inner : Got} {end : Leaf} {z : List ℕ} → length text < 18446744073709551615 → op < 256
-      → Reads before_p after putOrP depth text at x count z inner → Leafs (sign_of close) (sign close) text inner.ok inner.at end
+  pub bounded_puttable : {close op : ℕ} {inner : Got} {end : Leaf} {z : List ℕ} → length text < 18446744073709551615 → op < 256
+      → Reads before_p after put_or_p depth text at x count z inner → Leafs (sign_of close) (sign close) text inner.ok inner.at end
       → Puttable (record { ok = end.ok; at = end.at; count = inner.count }) (node op 0 (inner.count - 1) 0) z
-  bounded-puttable long small reads leaf =
+  bounded_puttable long small reads leaf =
       record {
         area = reads.size ∙ ready.area;
         counted = λ e. let w = reads.took (leaf.well e) in omega (arith, w.taken, w.within, ready.taken);
@@ -82,9 +82,9 @@ module _ {text : List ℕ} {at depth : ℕ} {x : List ℕ} {count : ℕ} (ready 
       }
 
   -- slen: a comparison and a number
-  pub slen-went : {cmp end : Leaf} → Leafs comparison_token a_comparison text true at cmp → Leafs number a_number text cmp.ok cmp.at end
+  pub slen_went : {cmp end : Leaf} → Leafs comparison_token a_comparison text true at cmp → Leafs number a_number text cmp.ok cmp.at end
       → Went about_slen depth text at end.ok depth end.at (λ k. k (comparison_of cmp.value, end.value)) × (end.ok ≡ true → at < end.at)
-  slen-went {cmp = cmp} {end = end} leaf₁ leaf₂ =
+  slen_went {cmp = cmp} {end = end} leaf₁ leaf₂ =
       let c = comparison_of cmp.value in
       let n = end.value in
       let w₁ =
@@ -93,15 +93,15 @@ module _ {text : List ℕ} {at depth : ℕ} {x : List ℕ} {count : ℕ} (ready 
       (went_leaf (λ k n. k (c, n)) depth (λ k. k (c, n)) w₁ leaf₂ (λ _ k ts. number_run depth n _ ts), further w₁ leaf₂)
 
   -- in brackets a proposition, then a comparison and a number
-  pub counted-reads : {op : ℕ} {cmp end : Leaf} {inner : Got} {z y : List ℕ} {r : Got}
-      → Reads about_bracket_p next putOrP depth text at x count z inner
+  pub counted_reads : {op : ℕ} {cmp end : Leaf} {inner : Got} {z y : List ℕ} {r : Got}
+      → Reads about_bracket_p next put_or_p depth text at x count z inner
       → Leafs comparison_token a_comparison text inner.ok inner.at cmp → cmp.value ≤ 4
       → Leafs number a_number text cmp.ok cmp.at end
       → NodePut (record { ok = end.ok; at = end.at; count = inner.count }) (node op cmp.value (inner.count - 1) end.value) z y r
       → Reads about_counted next (put_counted op) depth text at x count y r
   unfolding put_over last
-  counted-reads {op = op} {cmp = cmp} {end = end} reads leaf₁ q leaf₂ p =
-      let t = told (oneP (unitP trueP)) reads in
+  counted_reads {op = op} {cmp = cmp} {end = end} reads leaf₁ q leaf₂ p =
+      let t = told (one_p (unit_p trueP)) reads in
       let tree = t.tree in
       let c = comparison_of cmp.value in
       let n = end.value in
@@ -111,10 +111,10 @@ module _ {text : List ℕ} {at depth : ℕ} {x : List ℕ} {count : ℕ} (ready 
       went_leaf (λ k c. a_number (λ n. k (tree, c, n))) depth (λ k. a_number (λ n. k (tree, c, n))) w₁ leaf₁
       (λ _ k ts. comparison_run depth c _ ts) in
       let w₃ = went_leaf (λ k n. k (tree, c, n)) depth (λ k. k (tree, c, n)) w₂ leaf₂ (λ _ k ts. number_run depth n _ ts) in
-      reads-put (tree, c, n) w₃ p
+      reads_put (tree, c, n) w₃ p
       (λ e.
       ap (put_over op cmp.value n) (t.drafted (leaf₁.well (leaf₂.well e)))
-      ∙ ap (λ q. put_over op q n (putOrP tree (draft x count))) (sym (compared cmp.value q)))
+      ∙ ap (λ q. put_over op q n (put_or_p tree (draft x count))) (sym (compared cmp.value q)))
       (λ e.
       let e₁ = leaf₂.well e in
       let a = t.more (leaf₁.well e₁) in
@@ -125,12 +125,12 @@ module _ {text : List ℕ} {at depth : ℕ} {x : List ℕ} {count : ℕ} (ready 
       (omega arith, omega arith, omega arith))
       (p.size ∙ reads.size)
 
-  pub counted-puttable : {op : ℕ} {cmp end : Leaf} {inner : Got} {z : List ℕ} → length text < 18446744073709551615 → op < 256
-      → Reads about_bracket_p next putOrP depth text at x count z inner
+  pub counted_puttable : {op : ℕ} {cmp end : Leaf} {inner : Got} {z : List ℕ} → length text < 18446744073709551615 → op < 256
+      → Reads about_bracket_p next put_or_p depth text at x count z inner
       → Leafs comparison_token a_comparison text inner.ok inner.at cmp → cmp.value ≤ 4
       → Leafs number a_number text cmp.ok cmp.at end
       → Puttable (record { ok = end.ok; at = end.at; count = inner.count }) (node op cmp.value (inner.count - 1) end.value) z
-  counted-puttable long small reads leaf₁ q leaf₂ =
+  counted_puttable long small reads leaf₁ q leaf₂ =
       record {
         area = reads.size ∙ ready.area;
         counted = λ e. let w = reads.took (leaf₁.well (leaf₂.well e)) in omega (arith, w.taken, w.within, ready.taken);
@@ -138,13 +138,13 @@ module _ {text : List ℕ} {at depth : ℕ} {x : List ℕ} {count : ℕ} (ready 
       }
 
   -- draw: a number and a signal
-  pub draw-went : {opening symbol comma signal end : Leaf} → Opens text at depth opening
+  pub draw_went : {opening symbol comma signal end : Leaf} → Opens text at depth opening
       → Leafs number a_number text opening.ok opening.at symbol
       → Leafs (sign_of comma_sign) (sign comma_sign) text symbol.ok symbol.at comma → Leafs signalled a_signal text comma.ok comma.at signal
       → Leafs (sign_of close_round) (sign close_round) text signal.ok signal.at end
       → Went about_draw depth text at end.ok depth end.at (λ k. k (symbol.value, signal.value))
       × (end.ok ≡ true → (at < end.at) × (signal.value < 16))
-  draw-went {symbol = symbol} {signal = signal} opened leaf₁ leaf₂ leaf₃ leaf₄ =
+  draw_went {symbol = symbol} {signal = signal} opened leaf₁ leaf₂ leaf₃ leaf₄ =
       let q = symbol.value in
       let i = signal.value in
       let room = depth - 1 in
@@ -160,10 +160,10 @@ module _ {text : List ℕ} {at depth : ℕ} {x : List ℕ} {count : ℕ} (ready 
       )
 
   -- at: a name
-  pub at-went : {opening name end : Leaf} → Opens text at depth opening → Leafs named a_name text opening.ok opening.at name
+  pub at_went : {opening name end : Leaf} → Opens text at depth opening → Leafs named a_name text opening.ok opening.at name
       → Leafs (sign_of close_round) (sign close_round) text name.ok name.at end
       → Went about_at depth text at end.ok depth end.at (λ k. k name.value) × (end.ok ≡ true → (at < end.at) × (name.value < 3))
-  at-went {name = name} opened leaf₁ leaf₂ =
+  at_went {name = name} opened leaf₁ leaf₂ =
       let u = name.value in
       let s₁ : (ℕ → State) → ℕ → State = λ k u. sign close_round (k u) in
       let w₁ =
@@ -174,7 +174,7 @@ module _ {text : List ℕ} {at depth : ℕ} {x : List ℕ} {count : ℕ} (ready 
       )
 
   -- gap: two names and two numbers
-  pub gap-went : {opening first comma₁ second comma₂ least comma₃ most end : Leaf} → Opens text at depth opening
+  pub gap_went : {opening first comma₁ second comma₂ least comma₃ most end : Leaf} → Opens text at depth opening
       → Leafs named a_name text opening.ok opening.at first
       → Leafs (sign_of comma_sign) (sign comma_sign) text first.ok first.at comma₁ → Leafs named a_name text comma₁.ok comma₁.at second
       → Leafs (sign_of comma_sign) (sign comma_sign) text second.ok second.at comma₂ → Leafs number a_number text comma₂.ok comma₂.at least
@@ -182,7 +182,7 @@ module _ {text : List ℕ} {at depth : ℕ} {x : List ℕ} {count : ℕ} (ready 
       → Leafs (sign_of close_round) (sign close_round) text most.ok most.at end
       → Went about_gap depth text at end.ok depth end.at (λ k. k (first.value, second.value, least.value, most.value))
       × (end.ok ≡ true → (at < end.at) × (first.value < 3) × (second.value < 3) × (least.value ≤ 65535) × (most.value ≤ 65535))
-  gap-went {first = first} {second = second} {least = least} {most = most} {end = end} opened leaf₁ leaf₂ leaf₃ leaf₄ leaf₅ leaf₆ leaf₇ leaf₈ =
+  gap_went {first = first} {second = second} {least = least} {most = most} {end = end} opened leaf₁ leaf₂ leaf₃ leaf₄ leaf₅ leaf₆ leaf₇ leaf₈ =
       let u = first.value in
       let v = second.value in
       let a = least.value in
@@ -217,9 +217,9 @@ module _ {text : List ℕ} {at depth : ℕ} {x : List ℕ} {count : ℕ} (ready 
       )
 
   -- the one node of slen, draw, at and gap
-  pub alone-puttable : {K : Type 0} {about : K → State} {s : K → State} {ok : Bool} {to : ℕ} {last : Node} → length text < 18446744073709551615
+  pub alone_puttable : {K : Type 0} {about : K → State} {s : K → State} {ok : Bool} {to : ℕ} {last : Node} → length text < 18446744073709551615
       → Went about depth text at ok depth to s → (ok ≡ true → NodeFits last) → Puttable (record { ok = ok; at = to; count = count }) last x
-  alone-puttable long w fits =
+  alone_puttable long w fits =
       record {
         area = ready.area;
         counted = λ e. let h = w.onward e in let h' = w.within e in omega (arith, ready.taken);

@@ -2,9 +2,9 @@
 use Rattle.std.specs.Prelude.{ℕ, zero, suc, ◌+◌, ◌≤◌, ◌<◌, List, ◌⊎◌, ◌≡◌}
 use Rattle.semantics.specs.Formula.{Comparison}
 use Rattle.grammar.specs.Token.{plain, open_round, close_round, comma_sign}
-use Rattle.grammar.specs.Tree.{OrP, OrF, AndF, ChopF, UnitF, slenF, drawF, atF, gapF, bracketF}
+use Rattle.grammar.specs.Tree.{OrP, OrF, AndF, ChopF, UnitF, slen_f, draw_f, at_f, gap_f, bracketF}
 use Rattle.grammar.specs.Reader.{OrHoleF, AndHoleF, HoleF, State, sign, a_number, a_name, a_signal, a_comparison, about_or_p, about_or_f, has_or_f, about_and_f, has_and_f, about_chop_f, has_chop_f, about_unit_f, has_unit_f, start_f}
-use Rattle.typed.specs.Draft.{Draft, put_over, comparison_number, putOrP, putOrF, putAndF, putChopF, putUnitF}
+use Rattle.typed.specs.Draft.{Draft, put_over, comparison_number, put_or_p, put_or_f, put_and_f, put_chop_f, put_unit_f}
 use Rattle.propositions.specs.declared.Got.{Got}
 use Rattle.propositions.specs.Reads.{Closes}
 use Rattle.propositions.specs.Propositions.{about_bracket_p}
@@ -14,34 +14,34 @@ abbrev pub about_bounded : ℕ → (OrP → State) → State
 about_bounded close k = about_or_p (λ p. sign close (k p))
 
 abbrev pub put_bounded : ℕ → OrP → Draft → Draft
-put_bounded op p d = put_over op 0 0 (putOrP p d)
+put_bounded op p d = put_over op 0 0 (put_or_p p d)
 
 -- slen after its word
 abbrev pub about_slen : (Comparison × ℕ → State) → State
 about_slen k = a_comparison (λ c. a_number (λ n. k (c, n)))
 
 abbrev pub put_slen : Comparison × ℕ → Draft → Draft
-put_slen t d = putUnitF (slenF t.0 t.1) d
+put_slen t d = put_unit_f (slen_f t.0 t.1) d
 
 -- scount and sdur after their word
 abbrev pub about_counted : (OrP × Comparison × ℕ → State) → State
 about_counted k = about_bracket_p (λ p. a_comparison (λ c. a_number (λ n. k (p, c, n))))
 
 abbrev pub put_counted : ℕ → OrP × Comparison × ℕ → Draft → Draft
-put_counted op t d = put_over op (comparison_number t.1) t.2 (putOrP t.0 d)
+put_counted op t d = put_over op (comparison_number t.1) t.2 (put_or_p t.0 d)
 
 -- draw, at and gap after their word
 abbrev pub about_draw : (ℕ × ℕ → State) → State
 about_draw k = sign open_round (a_number (λ q. sign comma_sign (a_signal (λ i. sign close_round (k (q, i))))))
 
 abbrev pub put_draw : ℕ × ℕ → Draft → Draft
-put_draw t d = putUnitF (drawF t.0 t.1) d
+put_draw t d = put_unit_f (draw_f t.0 t.1) d
 
 abbrev pub about_at : (ℕ → State) → State
 about_at k = sign open_round (a_name (λ u. sign close_round (k u)))
 
 abbrev pub put_at : ℕ → Draft → Draft
-put_at u d = putUnitF (atF u) d
+put_at u d = put_unit_f (at_f u) d
 
 abbrev pub about_gap : (ℕ × ℕ × ℕ × ℕ → State) → State
 about_gap k =
@@ -50,7 +50,7 @@ about_gap k =
     (a_number (λ a. sign comma_sign (a_number (λ b. sign close_round (k (u, v, a, b))))))))))
 
 abbrev pub put_gap : ℕ × ℕ × ℕ × ℕ → Draft → Draft
-put_gap t d = putUnitF (gapF t.0 t.1 t.2 t.3) d
+put_gap t d = put_unit_f (gap_f t.0 t.1 t.2 t.3) d
 
 -- How tightly a formula binds: level 0 is a single piece, level 1 joins pieces by ^, level 2 joins those by &, level 3 those by |.
 abbrev pub Tree : ℕ → Type 0
@@ -82,10 +82,10 @@ has_level (suc (suc zero)) w g = has_and_f w.0 w.1 g
 has_level (suc (suc (suc l))) w f = has_or_f w.1 f
 
 abbrev pub put_level : (l : ℕ) → Tree l → Draft → Draft
-put_level zero u d = putUnitF u d
-put_level (suc zero) c d = putChopF c d
-put_level (suc (suc zero)) g d = putAndF g d
-put_level (suc (suc (suc l))) f d = putOrF f d
+put_level zero u d = put_unit_f u d
+put_level (suc zero) c d = put_chop_f c d
+put_level (suc (suc zero)) g d = put_and_f g d
+put_level (suc (suc (suc l))) f d = put_or_f f d
 
 -- the star, and the joiners of a level and of those below it
 abbrev pub Taken : ℕ → ℕ → Type 0
@@ -103,4 +103,4 @@ abbrev pub ReadsLevel : ℕ → ℕ → List ℕ → ℕ → List ℕ → ℕ �
 ReadsLevel l room text at x count y r = Closes (about_level l) (has_level l) (put_level l) (Taken l) room text at x count y r
 
 abbrev pub ReadsPiece : (Place 0 → State) → ℕ → List ℕ → ℕ → List ℕ → ℕ → List ℕ → Got → Type 0
-ReadsPiece about room text at x count y r = Closes about (has_level 0) putUnitF (Taken 0) room text at x count y r
+ReadsPiece about room text at x count y r = Closes about (has_level 0) put_unit_f (Taken 0) room text at x count y r

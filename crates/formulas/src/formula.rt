@@ -1,6 +1,6 @@
 // Formulas: | joins what & joins, & joins what ^ joins, ^ joins pieces; a bracketed formula is a piece, and may carry a star.
 ghost use Rattle.std.specs.Prelude.{◌≤◌};
-ghost use Rattle.typed.specs.Draft.{putOrF};
+ghost use Rattle.typed.specs.Draft.{put_or_f};
 ghost use Rattle.propositions.specs.Reads.{Ready, Reads, before_f, after};
 ghost use Rattle.formulas.specs.Pieces.{about_bracket_f, ReadsLevel, ReadsPiece};
 
@@ -93,7 +93,7 @@ fn joined(text: &[u8], at: usize, depth: usize, level: usize, nodes: &mut [u8], 
 #[cycle(bracket_formula_joined_term)]
 pub fn formula(text: &[u8], at: usize, depth: usize, nodes: &mut [u8], count: usize) -> Got
     requires { Ready text.now at nodes.old count }
-    ensures { Reads before_f after putOrF depth text.now at nodes.old count nodes.new result }
+    ensures { Reads before_f after put_or_f depth text.now at nodes.old count nodes.new result }
 {
     joined(text, at, depth, FORMULA, nodes, count)
 }

@@ -6,9 +6,9 @@ use mathlib.Core.Path.{◌≡◌, refl, sym, ap, ◌∙◌}
 use lib.Dec.{leb, ltb}
 use Rattle.grammar.specs.Token.{Token, plain, line_end, close_round, comma_sign, colon_sign, star_sign, close_square, close_squares, close_braces, comparison_sign}
 use Rattle.semantics.specs.Formula.{above}
-use Rattle.grammar.specs.Tree.{OrP, oneP, orP, AndP, unitP, andP, UnitP, trueP, falseP, signalP, nameP, notP, bracketP, OrF, oneF, orF, AndF, chainF, andF, ChopF, unitF, chopF, UnitF, pointF, stretchF, wholeF, braceF, slenF, scountF, sdurF, drawF, atF, gapF, bracketF, starF, TypedPart, TypedClause, pref_c, anti_c, init_c, implies_c, follows_c, triggers_c, Line, assume_l, require_l, TypedSheet}
-use Rattle.grammar.specs.Spelled.{sayOrP, sayAndP, sayUnitP, say_compared, sayOrF, sayAndF, sayChopF, sayUnitF, say_names, say_part, say_clause, say_line, say_lines, say_sheet, Says}
-use Rattle.grammar.specs.Small.{smallOrP, smallAndP, smallUnitP, smallOrF, smallAndF, smallChopF, smallUnitF, small_names, small_part, small_clause, small_line, small_lines, small_sheet}
+use Rattle.grammar.specs.Tree.{OrP, one_p, or_p, AndP, unit_p, and_p, UnitP, trueP, falseP, signalP, nameP, not_p, bracket_p, OrF, one_f, or_f, AndF, chain_f, and_f, ChopF, unit_f, chop_f, UnitF, pointF, stretchF, wholeF, braceF, slen_f, scountF, sdurF, draw_f, at_f, gap_f, bracketF, starF, TypedPart, TypedClause, pref_c, anti_c, init_c, implies_c, follows_c, triggers_c, Line, assume_l, require_l, TypedSheet}
+use Rattle.grammar.specs.Spelled.{say_or_p, say_and_p, say_unit_p, say_compared, say_or_f, say_and_f, say_chop_f, say_unit_f, say_names, say_part, say_clause, say_line, say_lines, say_sheet, Says}
+use Rattle.grammar.specs.Small.{small_or_p, small_and_p, small_unit_p, small_or_f, small_and_f, small_chop_f, small_unit_f, small_names, small_part, small_clause, small_line, small_lines, small_sheet}
 use Rattle.grammar.proofs.Lexed.{small_token, small_tokens, small_tokens_lem}
 
 -- one thing said after another
@@ -16,58 +16,58 @@ joined : {x y : Bool} (a b z : Bool) → x ≡ a && y → y ≡ b && z → x ≡
 joined a b z p q = p ∙ ap (λ c. a && c) q ∙ sym (and_assoc a b z)
 
 mutual
-  unfolding sayOrP sayAndP sayUnitP smallOrP smallAndP smallUnitP small_token small_tokens
+  unfolding say_or_p say_and_p say_unit_p small_or_p small_and_p small_unit_p small_token small_tokens
 
-  small-OrP : (p : OrP) (rest : List Token) → small_tokens (sayOrP p rest) ≡ smallOrP p && small_tokens rest
-  small-OrP (oneP q) rest = small-AndP q rest
-  small-OrP (orP p q) rest =
-      joined (smallOrP p) (smallAndP q) (small_tokens rest) (small-OrP p _) (small-AndP q rest)
+  small_or_p_lem : (p : OrP) (rest : List Token) → small_tokens (say_or_p p rest) ≡ small_or_p p && small_tokens rest
+  small_or_p_lem (one_p q) rest = small_and_p_lem q rest
+  small_or_p_lem (or_p p q) rest =
+      joined (small_or_p p) (small_and_p q) (small_tokens rest) (small_or_p_lem p _) (small_and_p_lem q rest)
 
-  small-AndP : (q : AndP) (rest : List Token) → small_tokens (sayAndP q rest) ≡ smallAndP q && small_tokens rest
-  small-AndP (unitP u) rest = small-UnitP u rest
-  small-AndP (andP q u) rest =
-      joined (smallAndP q) (smallUnitP u) (small_tokens rest) (small-AndP q _) (small-UnitP u rest)
+  small_and_p_lem : (q : AndP) (rest : List Token) → small_tokens (say_and_p q rest) ≡ small_and_p q && small_tokens rest
+  small_and_p_lem (unit_p u) rest = small_unit_p_lem u rest
+  small_and_p_lem (and_p q u) rest =
+      joined (small_and_p q) (small_unit_p u) (small_tokens rest) (small_and_p_lem q _) (small_unit_p_lem u rest)
 
-  small-UnitP : (u : UnitP) (rest : List Token) → small_tokens (sayUnitP u rest) ≡ smallUnitP u && small_tokens rest
-  small-UnitP trueP rest = refl
-  small-UnitP falseP rest = refl
-  small-UnitP (signalP i) rest = refl
-  small-UnitP (nameP u) rest = refl
-  small-UnitP (notP u) rest = small-UnitP u rest
-  small-UnitP (bracketP p) rest = small-OrP p (plain close_round ∷ rest)
+  small_unit_p_lem : (u : UnitP) (rest : List Token) → small_tokens (say_unit_p u rest) ≡ small_unit_p u && small_tokens rest
+  small_unit_p_lem trueP rest = refl
+  small_unit_p_lem falseP rest = refl
+  small_unit_p_lem (signalP i) rest = refl
+  small_unit_p_lem (nameP u) rest = refl
+  small_unit_p_lem (not_p u) rest = small_unit_p_lem u rest
+  small_unit_p_lem (bracket_p p) rest = small_or_p_lem p (plain close_round ∷ rest)
 
 mutual
-  unfolding sayOrF sayAndF sayChopF sayUnitF say_compared smallOrF smallAndF smallChopF smallUnitF small_token small_tokens
+  unfolding say_or_f say_and_f say_chop_f say_unit_f say_compared small_or_f small_and_f small_chop_f small_unit_f small_token small_tokens
 
-  small-OrF : (f : OrF) (rest : List Token) → small_tokens (sayOrF f rest) ≡ smallOrF f && small_tokens rest
-  small-OrF (oneF g) rest = small-AndF g rest
-  small-OrF (orF f g) rest =
-      joined (smallOrF f) (smallAndF g) (small_tokens rest) (small-OrF f _) (small-AndF g rest)
+  small_or_f_lem : (f : OrF) (rest : List Token) → small_tokens (say_or_f f rest) ≡ small_or_f f && small_tokens rest
+  small_or_f_lem (one_f g) rest = small_and_f_lem g rest
+  small_or_f_lem (or_f f g) rest =
+      joined (small_or_f f) (small_and_f g) (small_tokens rest) (small_or_f_lem f _) (small_and_f_lem g rest)
 
-  small-AndF : (g : AndF) (rest : List Token) → small_tokens (sayAndF g rest) ≡ smallAndF g && small_tokens rest
-  small-AndF (chainF c) rest = small-ChopF c rest
-  small-AndF (andF g c) rest =
-      joined (smallAndF g) (smallChopF c) (small_tokens rest) (small-AndF g _) (small-ChopF c rest)
+  small_and_f_lem : (g : AndF) (rest : List Token) → small_tokens (say_and_f g rest) ≡ small_and_f g && small_tokens rest
+  small_and_f_lem (chain_f c) rest = small_chop_f_lem c rest
+  small_and_f_lem (and_f g c) rest =
+      joined (small_and_f g) (small_chop_f c) (small_tokens rest) (small_and_f_lem g _) (small_chop_f_lem c rest)
 
-  small-ChopF : (c : ChopF) (rest : List Token) → small_tokens (sayChopF c rest) ≡ smallChopF c && small_tokens rest
-  small-ChopF (unitF u) rest = small-UnitF u rest
-  small-ChopF (chopF c u) rest =
-      joined (smallChopF c) (smallUnitF u) (small_tokens rest) (small-ChopF c _) (small-UnitF u rest)
+  small_chop_f_lem : (c : ChopF) (rest : List Token) → small_tokens (say_chop_f c rest) ≡ small_chop_f c && small_tokens rest
+  small_chop_f_lem (unit_f u) rest = small_unit_f_lem u rest
+  small_chop_f_lem (chop_f c u) rest =
+      joined (small_chop_f c) (small_unit_f u) (small_tokens rest) (small_chop_f_lem c _) (small_unit_f_lem u rest)
 
-  small-UnitF : (u : UnitF) (rest : List Token) → small_tokens (sayUnitF u rest) ≡ smallUnitF u && small_tokens rest
-  small-UnitF (pointF p) rest = small-OrP p (plain (comparison_sign above) ∷ rest)
-  small-UnitF (stretchF p) rest = small-OrP p (plain close_square ∷ rest)
-  small-UnitF (wholeF p) rest = small-OrP p (plain close_squares ∷ rest)
-  small-UnitF (braceF p) rest = small-OrP p (plain close_braces ∷ rest)
-  small-UnitF (slenF c n) rest = refl
-  small-UnitF (scountF p c n) rest = joined (smallOrP p) (leb n 65535) (small_tokens rest) (small-OrP p (plain close_round ∷ say_compared c n rest)) refl
-  small-UnitF (sdurF p c n) rest = joined (smallOrP p) (leb n 65535) (small_tokens rest) (small-OrP p (plain close_round ∷ say_compared c n rest)) refl
-  small-UnitF (drawF q i) rest = sym (and_assoc (leb q 65535) (ltb i 16) (small_tokens rest))
-  small-UnitF (atF u) rest = refl
-  small-UnitF (gapF u v a b) rest = joined (ltb u 3) (ltb v 3 && (leb a 65535 && leb b 65535)) (small_tokens rest) refl
+  small_unit_f_lem : (u : UnitF) (rest : List Token) → small_tokens (say_unit_f u rest) ≡ small_unit_f u && small_tokens rest
+  small_unit_f_lem (pointF p) rest = small_or_p_lem p (plain (comparison_sign above) ∷ rest)
+  small_unit_f_lem (stretchF p) rest = small_or_p_lem p (plain close_square ∷ rest)
+  small_unit_f_lem (wholeF p) rest = small_or_p_lem p (plain close_squares ∷ rest)
+  small_unit_f_lem (braceF p) rest = small_or_p_lem p (plain close_braces ∷ rest)
+  small_unit_f_lem (slen_f c n) rest = refl
+  small_unit_f_lem (scountF p c n) rest = joined (small_or_p p) (leb n 65535) (small_tokens rest) (small_or_p_lem p (plain close_round ∷ say_compared c n rest)) refl
+  small_unit_f_lem (sdurF p c n) rest = joined (small_or_p p) (leb n 65535) (small_tokens rest) (small_or_p_lem p (plain close_round ∷ say_compared c n rest)) refl
+  small_unit_f_lem (draw_f q i) rest = sym (and_assoc (leb q 65535) (ltb i 16) (small_tokens rest))
+  small_unit_f_lem (at_f u) rest = refl
+  small_unit_f_lem (gap_f u v a b) rest = joined (ltb u 3) (ltb v 3 && (leb a 65535 && leb b 65535)) (small_tokens rest) refl
       (joined (ltb v 3) (leb a 65535 && leb b 65535) (small_tokens rest) refl (joined (leb a 65535) (leb b 65535) (small_tokens rest) refl refl))
-  small-UnitF (bracketF f) rest = small-OrF f (plain close_round ∷ rest)
-  small-UnitF (starF f) rest = small-OrF f (plain close_round ∷ plain star_sign ∷ rest)
+  small_unit_f_lem (bracketF f) rest = small_or_f_lem f (plain close_round ∷ rest)
+  small_unit_f_lem (starF f) rest = small_or_f_lem f (plain close_round ∷ plain star_sign ∷ rest)
 
 small_names_lem : (us : List ℕ) (rest : List Token) → small_tokens (say_names us rest) ≡ small_names us && small_tokens rest
 unfolding say_names small_names small_token small_tokens
@@ -77,8 +77,8 @@ small_names_lem (u ∷ us) rest = joined (ltb u 3) (small_names us) (small_token
 small_part_lem : (d : TypedPart) (rest : List Token) → small_tokens (say_part d rest) ≡ small_part d && small_tokens rest
 unfolding say_part small_part small_token small_tokens
 small_part_lem d rest =
-    joined (smallOrF d.formula) (small_names d.names) (small_tokens rest)
-    (small-OrF d.formula (plain colon_sign ∷ say_names d.names rest)) (small_names_lem d.names rest)
+    joined (small_or_f d.formula) (small_names d.names) (small_tokens rest)
+    (small_or_f_lem d.formula (plain colon_sign ∷ say_names d.names rest)) (small_names_lem d.names rest)
 
 small_two : (d₁ d₂ : TypedPart) (rest : List Token)
     → small_tokens (say_part d₁ (plain comma_sign ∷ say_part d₂ (plain close_round ∷ rest))) ≡ small_part d₁ && small_part d₂ && small_tokens rest

@@ -7,7 +7,7 @@ use mathlib.Core.Path.{◌≡◌, refl}
 use lib.ListN.{replicate}
 use Rattle.semantics.specs.Formula.{at_most}
 use Rattle.grammar.specs.Token.{is_blank, is_digit, begins, spelling_of, digits, number_from, numbered, tokens_past, tokens}
-use Rattle.grammar.specs.Tree.{oneP, unitP, andP, signalP, nameP, notP, OrF, oneF, orF, chainF, unitF, chopF, pointF, stretchF, slenF, starF, pref_c, require_l, TypedSheet}
+use Rattle.grammar.specs.Tree.{one_p, unit_p, and_p, signalP, nameP, not_p, OrF, one_f, or_f, chain_f, unit_f, chop_f, pointF, stretchF, slen_f, starF, pref_c, require_l, TypedSheet}
 use Rattle.grammar.specs.Spelled.{is_among}
 use Rattle.grammar.specs.Brackets.{open_after, deeper, too_deep}
 use Rattle.grammar.specs.Reader.{parse}
@@ -29,11 +29,11 @@ text =
 
 abbrev formula : OrF
 formula =
-    orF
-    (oneF (chainF (chopF
-    (unitF (stretchF (oneP (unitP (signalP 0)))))
-    (starF (oneF (chainF (unitF (pointF (oneP (andP (unitP (notP (signalP 1))) (nameP 0)))))))))))
-    (chainF (unitF (slenF at_most 7)))
+    or_f
+    (one_f (chain_f (chop_f
+    (unit_f (stretchF (one_p (unit_p (signalP 0)))))
+    (starF (one_f (chain_f (unit_f (pointF (one_p (and_p (unit_p (not_p (signalP 1))) (nameP 0)))))))))))
+    (chain_f (unit_f (slen_f at_most 7)))
 
 abbrev sheet : TypedSheet
 sheet = record { signals = 2; names = 1; lines = require_l (pref_c (record { formula = formula; names = 0 ∷ [] })) ∷ [] }

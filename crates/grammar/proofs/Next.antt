@@ -16,30 +16,30 @@ unfolding computing
 open_sign room s ts = refl
 
 -- the joiners and the star
-pub or_p : (room : ℕ) (k : OrP → State) (p : OrP) (ts : List Token)
+pub or_p_lem : (room : ℕ) (k : OrP → State) (p : OrP) (ts : List Token)
     → run room (has_or_p k p) (plain or_sign ∷ ts) ≡ run room (about_and_p (after_or_p p) k) ts
 unfolding computing
-or_p room k p ts = refl
+or_p_lem room k p ts = refl
 
-pub and_p : (room : ℕ) (h : OrHoleP) (k : OrP → State) (q : AndP) (ts : List Token)
+pub and_p_lem : (room : ℕ) (h : OrHoleP) (k : OrP → State) (q : AndP) (ts : List Token)
     → run room (has_and_p h k q) (plain and_sign ∷ ts) ≡ run room (about_unit_p (no_not_p (after_and_p h q)) k) ts
 unfolding computing
-and_p room h k q ts = ap (λ s. run room s ts) (and_next_p h q k)
+and_p_lem room h k q ts = ap (λ s. run room s ts) (and_next_p h q k)
 
-pub or_f : (room : ℕ) (k : OrF → State) (f : OrF) (ts : List Token)
+pub or_f_lem : (room : ℕ) (k : OrF → State) (f : OrF) (ts : List Token)
     → run room (has_or_f k f) (plain or_sign ∷ ts) ≡ run room (about_and_f (after_or_f f) k) ts
 unfolding computing
-or_f room k f ts = refl
+or_f_lem room k f ts = refl
 
-pub and_f : (room : ℕ) (h : OrHoleF) (k : OrF → State) (g : AndF) (ts : List Token)
+pub and_f_lem : (room : ℕ) (h : OrHoleF) (k : OrF → State) (g : AndF) (ts : List Token)
     → run room (has_and_f h k g) (plain and_sign ∷ ts) ≡ run room (about_chop_f (after_and_f h g) k) ts
 unfolding computing
-and_f room h k g ts = ap (λ s. run room s ts) (and_next_f h g k)
+and_f_lem room h k g ts = ap (λ s. run room s ts) (and_next_f h g k)
 
-pub chop_f : (room : ℕ) (h : AndHoleF) (k : OrF → State) (c : ChopF) (ts : List Token)
+pub chop_f_lem : (room : ℕ) (h : AndHoleF) (k : OrF → State) (c : ChopF) (ts : List Token)
     → run room (has_chop_f h k c) (plain chop_sign ∷ ts) ≡ run room (about_unit_f (after_chop_f h c) k) ts
 unfolding computing
-chop_f room h k c ts = ap (λ s. run room s ts) (chop_next_f h c k)
+chop_f_lem room h k c ts = ap (λ s. run room s ts) (chop_next_f h c k)
 
 pub star_f : (room : ℕ) (h : HoleF) (k : OrF → State) (f : OrF) (ts : List Token)
     → run room (has_unit_f h k (bracketF f)) (plain star_sign ∷ ts) ≡ run room (has_unit_f h k (starF f)) ts

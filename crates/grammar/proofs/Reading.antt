@@ -9,8 +9,8 @@ use borrow.Author.Tests.{eqb-true}
 use Rattle.semantics.specs.Formula.{Comparison, below, at_most, equal, at_least, above}
 use Rattle.semantics.proofs.Tests.{and_left, and_right, both}
 use Rattle.grammar.specs.Token.{Token, plain, signalled, named, number, outside, line_end, assume_word, require_word, open_round, close_round, or_sign, and_sign, chop_sign, not_sign, star_sign, comparison_sign, open_square, open_squares, open_braces, slen_word, scount_word, sdur_word, draw_word, at_word, gap_word, true_word, false_word, type_word, colon_sign, comma_sign}
-use Rattle.grammar.specs.Tree.{OrP, oneP, orP, AndP, UnitP, trueP, falseP, signalP, nameP, notP, bracketP, OrF, oneF, orF, AndF, chainF, andF, ChopF, unitF, chopF, UnitF, pointF, stretchF, wholeF, braceF, slenF, scountF, sdurF, drawF, atF, gapF, bracketF, starF, TypedPart, TypedClause, pref_c, anti_c, init_c, implies_c, follows_c, triggers_c, Line, assume_l, require_l, TypedSheet}
-use Rattle.grammar.specs.Spelled.{sayOrP, sayAndP, sayUnitP, say_compared, sayOrF, sayAndF, sayChopF, sayUnitF, say_names, say_part, say_clause, say_line, say_lines, say_sheet, is_among, none_twice, clause_single, lines_single}
+use Rattle.grammar.specs.Tree.{OrP, one_p, or_p, AndP, UnitP, trueP, falseP, signalP, nameP, not_p, bracket_p, OrF, one_f, or_f, AndF, chain_f, and_f, ChopF, unit_f, chop_f, UnitF, pointF, stretchF, wholeF, braceF, slen_f, scountF, sdurF, draw_f, at_f, gap_f, bracketF, starF, TypedPart, TypedClause, pref_c, anti_c, init_c, implies_c, follows_c, triggers_c, Line, assume_l, require_l, TypedSheet}
+use Rattle.grammar.specs.Spelled.{say_or_p, say_and_p, say_unit_p, say_compared, say_or_f, say_and_f, say_chop_f, say_unit_f, say_names, say_part, say_clause, say_line, say_lines, say_sheet, is_among, none_twice, clause_single, lines_single}
 use Rattle.grammar.specs.Reader.{OrHoleP, no_or_p, after_or_p, AndHoleP, no_and_p, after_and_p, HoleP, no_not_p, after_not_p, OrHoleF, no_or_f, after_or_f, AndHoleF, no_and_f, after_and_f, HoleF, no_chop_f, after_chop_f, fill_p, fill_f, State, failed, sign, a_number, a_name, a_signal, a_comparison, more_names, want_p, have_p, want_f, have_f, a_clause, at_line, about_or_p, about_and_p, about_unit_p, has_unit_p, about_or_f, about_and_f, about_chop_f, about_unit_f, has_unit_f, about_part, one_part, two_parts, three_parts, a_line, last_or_p, last_or_f, last_and_f, last_chop_f, starred, if_plain, if_number, if_name, if_signal, start_p, start_f, step, read, start, answer}
 use Rattle.grammar.proofs.Names.{single_more}
 use Rattle.grammar.proofs.Said.{computing}
@@ -25,11 +25,11 @@ and_then said t rest = said (t ∷ rest)
 -- what stands before a hole
 abbrev say_or_hole_p : OrHoleP → Saying
 say_or_hole_p no_or_p rest = rest
-say_or_hole_p (after_or_p p) rest = sayOrP p (plain or_sign ∷ rest)
+say_or_hole_p (after_or_p p) rest = say_or_p p (plain or_sign ∷ rest)
 
 abbrev say_and_hole_p : AndHoleP → Saying
 say_and_hole_p (no_and_p h) rest = say_or_hole_p h rest
-say_and_hole_p (after_and_p h q) rest = say_or_hole_p h (sayAndP q (plain and_sign ∷ rest))
+say_and_hole_p (after_and_p h q) rest = say_or_hole_p h (say_and_p q (plain and_sign ∷ rest))
 
 abbrev say_hole_p : HoleP → Saying
 say_hole_p (no_not_p h) rest = say_and_hole_p h rest
@@ -37,15 +37,15 @@ say_hole_p (after_not_p h) rest = say_hole_p h (plain not_sign ∷ rest)
 
 abbrev say_or_hole_f : OrHoleF → Saying
 say_or_hole_f no_or_f rest = rest
-say_or_hole_f (after_or_f f) rest = sayOrF f (plain or_sign ∷ rest)
+say_or_hole_f (after_or_f f) rest = say_or_f f (plain or_sign ∷ rest)
 
 abbrev say_and_hole_f : AndHoleF → Saying
 say_and_hole_f (no_and_f h) rest = say_or_hole_f h rest
-say_and_hole_f (after_and_f h g) rest = say_or_hole_f h (sayAndF g (plain and_sign ∷ rest))
+say_and_hole_f (after_and_f h g) rest = say_or_hole_f h (say_and_f g (plain and_sign ∷ rest))
 
 abbrev say_hole_f : HoleF → Saying
 say_hole_f (no_chop_f h) rest = say_and_hole_f h rest
-say_hole_f (after_chop_f h c) rest = say_and_hole_f h (sayChopF c (plain chop_sign ∷ rest))
+say_hole_f (after_chop_f h c) rest = say_and_hole_f h (say_chop_f c (plain chop_sign ∷ rest))
 
 abbrev say_lines_then : List Line → Saying
 say_lines_then [] rest = rest
@@ -72,10 +72,10 @@ Reads (a_comparison k) said = (c : Comparison) → Reads (k c) (and_then said (p
 Reads (more_names us k) said =
     (none_twice us ≡ true)
     × Within said (say_names us) (λ before. (vs : List ℕ) → none_twice vs ≡ true → Reads (k vs) (λ rest. before (say_names vs rest)))
-Reads (want_p h k) said = Within said (say_hole_p h) (λ before. (p : OrP) → Reads (k p) (λ rest. before (sayOrP p rest)))
-Reads (have_p p k) said = Within said (sayOrP p) (λ before. (p : OrP) → Reads (k p) (λ rest. before (sayOrP p rest)))
-Reads (want_f h k) said = Within said (say_hole_f h) (λ before. (f : OrF) → Reads (k f) (λ rest. before (sayOrF f rest)))
-Reads (have_f f k) said = Within said (sayOrF f) (λ before. (f : OrF) → Reads (k f) (λ rest. before (sayOrF f rest)))
+Reads (want_p h k) said = Within said (say_hole_p h) (λ before. (p : OrP) → Reads (k p) (λ rest. before (say_or_p p rest)))
+Reads (have_p p k) said = Within said (say_or_p p) (λ before. (p : OrP) → Reads (k p) (λ rest. before (say_or_p p rest)))
+Reads (want_f h k) said = Within said (say_hole_f h) (λ before. (f : OrF) → Reads (k f) (λ rest. before (say_or_f f rest)))
+Reads (have_f f k) said = Within said (say_or_f f) (λ before. (f : OrF) → Reads (k f) (λ rest. before (say_or_f f rest)))
 Reads (a_clause k) said = (c : TypedClause) → clause_single c ≡ true → Reads (k c) (λ rest. said (say_clause c rest))
 Reads (at_line s m ls) said =
     (lines_single ls ≡ true) × ((rest : List Token) → said rest ≡ number s ∷ number m ∷ plain line_end ∷ say_lines_then ls rest)
@@ -125,16 +125,16 @@ if_signal_lem (number x) k other said r r' = r'
 if_signal_lem outside k other said r r' = r'
 
 -- a tree is said as what stands before its hole, then what is in it
-said_fill_p : (h : HoleP) (u : UnitP) (rest : List Token) → sayOrP (fill_p h u) rest ≡ say_hole_p h (sayUnitP u rest)
-unfolding computing sayOrP sayAndP sayUnitP
+said_fill_p : (h : HoleP) (u : UnitP) (rest : List Token) → say_or_p (fill_p h u) rest ≡ say_hole_p h (say_unit_p u rest)
+unfolding computing say_or_p say_and_p say_unit_p
 said_fill_p (no_not_p (no_and_p no_or_p)) u rest = refl
 said_fill_p (no_not_p (no_and_p (after_or_p p))) u rest = refl
 said_fill_p (no_not_p (after_and_p no_or_p q)) u rest = refl
 said_fill_p (no_not_p (after_and_p (after_or_p p) q)) u rest = refl
-said_fill_p (after_not_p h) u rest = said_fill_p h (notP u) rest
+said_fill_p (after_not_p h) u rest = said_fill_p h (not_p u) rest
 
-said_fill_f : (h : HoleF) (u : UnitF) (rest : List Token) → sayOrF (fill_f h u) rest ≡ say_hole_f h (sayUnitF u rest)
-unfolding computing sayOrF sayAndF sayChopF
+said_fill_f : (h : HoleF) (u : UnitF) (rest : List Token) → say_or_f (fill_f h u) rest ≡ say_hole_f h (say_unit_f u rest)
+unfolding computing say_or_f say_and_f say_chop_f
 said_fill_f (no_chop_f (no_and_f no_or_f)) u rest = refl
 said_fill_f (no_chop_f (no_and_f (after_or_f f))) u rest = refl
 said_fill_f (no_chop_f (after_and_f no_or_f g)) u rest = refl
@@ -145,20 +145,20 @@ said_fill_f (after_chop_f (after_and_f no_or_f g) c) u rest = refl
 said_fill_f (after_chop_f (after_and_f (after_or_f f) g) c) u rest = refl
 
 has_unit_p_lem : (h : HoleP) (k : OrP → State) (said : Saying) → Reads (want_p h k) said → (u : UnitP)
-    → Reads (has_unit_p h k u) (λ rest. said (sayUnitP u rest))
+    → Reads (has_unit_p h k u) (λ rest. said (say_unit_p u rest))
 unfolding Reads has_unit_p
-has_unit_p_lem h k said r u = goes_on r (sayUnitP u) (sayOrP (fill_p h u)) (λ rest. sym (said_fill_p h u rest))
+has_unit_p_lem h k said r u = goes_on r (say_unit_p u) (say_or_p (fill_p h u)) (λ rest. sym (said_fill_p h u rest))
 
 has_unit_f_lem : (h : HoleF) (k : OrF → State) (said : Saying) → Reads (want_f h k) said → (u : UnitF)
-    → Reads (has_unit_f h k u) (λ rest. said (sayUnitF u rest))
+    → Reads (has_unit_f h k u) (λ rest. said (say_unit_f u rest))
 unfolding Reads has_unit_f
-has_unit_f_lem h k said r u = goes_on r (sayUnitF u) (sayOrF (fill_f h u)) (λ rest. sym (said_fill_f h u rest))
+has_unit_f_lem h k said r u = goes_on r (say_unit_f u) (say_or_f (fill_f h u)) (λ rest. sym (said_fill_f h u rest))
 
-about_p : (k : OrP → State) (said : Saying) → ((p : OrP) → Reads (k p) (λ rest. said (sayOrP p rest))) → Reads (about_or_p k) said
+about_p : (k : OrP → State) (said : Saying) → ((p : OrP) → Reads (k p) (λ rest. said (say_or_p p rest))) → Reads (about_or_p k) said
 unfolding Reads about_or_p
 about_p k said next = record { before = said; split = λ rest. refl; next = next }
 
-about_f : (k : OrF → State) (said : Saying) → ((f : OrF) → Reads (k f) (λ rest. said (sayOrF f rest))) → Reads (about_or_f k) said
+about_f : (k : OrF → State) (said : Saying) → ((f : OrF) → Reads (k f) (λ rest. said (say_or_f f rest))) → Reads (about_or_f k) said
 unfolding Reads about_or_f
 about_f k said next = record { before = said; split = λ rest. refl; next = next }
 
@@ -170,7 +170,7 @@ about_part_lem k said next =
     (λ f. (
       refl,
       record {
-        before = λ rest. said (sayOrF f (plain colon_sign ∷ rest));
+        before = λ rest. said (say_or_f f (plain colon_sign ∷ rest));
         split = λ rest. refl;
         next = λ us single. next (record { formula = f; names = us }) single;
       },
@@ -178,33 +178,33 @@ about_part_lem k said next =
 
 -- a piece begun
 start_p_lem : (h : HoleP) (k : OrP → State) (said : Saying) (t : Token) → Reads (want_p h k) said → Reads (start_p h k t) (and_then said t)
-unfolding Reads start_p about_unit_p sayUnitP
+unfolding Reads start_p about_unit_p say_unit_p
 start_p_lem h k said t r =
     if_plain_lem t true_word _ _ said (unit trueP)
     (if_plain_lem t false_word _ _ said (unit falseP)
     (if_plain_lem t not_sign _ _ said (goes_on r (λ rest. plain not_sign ∷ rest) (say_hole_p (after_not_p h)) (λ rest. refl))
-    (if_plain_lem t open_round _ _ said (about_p _ (and_then said (plain open_round)) (λ p. unit (bracketP p)))
+    (if_plain_lem t open_round _ _ said (about_p _ (and_then said (plain open_round)) (λ p. unit (bracket_p p)))
     (if_signal_lem t _ _ said (λ i. unit (signalP i)) (if_name_lem t _ _ said (λ u. unit (nameP u)) tt)))))
   where
-    unit : (u : UnitP) → Reads (has_unit_p h k u) (λ rest. said (sayUnitP u rest))
+    unit : (u : UnitP) → Reads (has_unit_p h k u) (λ rest. said (say_unit_p u rest))
     unit u = has_unit_p_lem h k said r u
 
 start_f_lem : (h : HoleF) (k : OrF → State) (said : Saying) (t : Token) → Reads (want_f h k) said → Reads (start_f h k t) (and_then said t)
-unfolding Reads start_f sayUnitF say_compared
+unfolding Reads start_f say_unit_f say_compared
 start_f_lem h k said t r =
     if_plain_lem t (comparison_sign below) _ _ said (about_p _ (and_then said (plain (comparison_sign below))) (λ p. unit (pointF p)))
     (if_plain_lem t open_square _ _ said (about_p _ (and_then said (plain open_square)) (λ p. unit (stretchF p)))
     (if_plain_lem t open_squares _ _ said (about_p _ (and_then said (plain open_squares)) (λ p. unit (wholeF p)))
     (if_plain_lem t open_braces _ _ said (about_p _ (and_then said (plain open_braces)) (λ p. unit (braceF p)))
-    (if_plain_lem t slen_word _ _ said (λ c n. unit (slenF c n))
+    (if_plain_lem t slen_word _ _ said (λ c n. unit (slen_f c n))
     (if_plain_lem t scount_word _ _ said (about_p _ (and_then (and_then said (plain scount_word)) (plain open_round)) (λ p c n. unit (scountF p c n)))
     (if_plain_lem t sdur_word _ _ said (about_p _ (and_then (and_then said (plain sdur_word)) (plain open_round)) (λ p c n. unit (sdurF p c n)))
-    (if_plain_lem t draw_word _ _ said (λ q i. unit (drawF q i))
-    (if_plain_lem t at_word _ _ said (λ u. unit (atF u))
-    (if_plain_lem t gap_word _ _ said (λ u v a b. unit (gapF u v a b))
+    (if_plain_lem t draw_word _ _ said (λ q i. unit (draw_f q i))
+    (if_plain_lem t at_word _ _ said (λ u. unit (at_f u))
+    (if_plain_lem t gap_word _ _ said (λ u v a b. unit (gap_f u v a b))
     (if_plain_lem t open_round _ _ said (about_f _ (and_then said (plain open_round)) (λ f. unit (bracketF f))) tt))))))))))
   where
-    unit : (u : UnitF) → Reads (has_unit_f h k u) (λ rest. said (sayUnitF u rest))
+    unit : (u : UnitF) → Reads (has_unit_f h k u) (λ rest. said (say_unit_f u rest))
     unit u = has_unit_f_lem h k said r u
 
 -- the parts of a clause, after the word of its type
@@ -290,47 +290,47 @@ name_more us k said r u = go (is_among u us) refl
 
 -- a tree taken apart at its last operand is said as before
 last_or_p_lem : (p : OrP) (Q : State → Type 0) (k : OrHoleP → AndP → State)
-    → ((h : OrHoleP) (q : AndP) → ((rest : List Token) → sayOrP p rest ≡ say_or_hole_p h (sayAndP q rest)) → Q (k h q)) → Q (last_or_p p k)
-unfolding last_or_p sayOrP
-last_or_p_lem (oneP q) Q k r = r no_or_p q (λ rest. refl)
-last_or_p_lem (orP p q) Q k r = r (after_or_p p) q (λ rest. refl)
+    → ((h : OrHoleP) (q : AndP) → ((rest : List Token) → say_or_p p rest ≡ say_or_hole_p h (say_and_p q rest)) → Q (k h q)) → Q (last_or_p p k)
+unfolding last_or_p say_or_p
+last_or_p_lem (one_p q) Q k r = r no_or_p q (λ rest. refl)
+last_or_p_lem (or_p p q) Q k r = r (after_or_p p) q (λ rest. refl)
 
 last_or_f_lem : (f : OrF) (Q : State → Type 0) (k : OrHoleF → AndF → State)
-    → ((h : OrHoleF) (g : AndF) → ((rest : List Token) → sayOrF f rest ≡ say_or_hole_f h (sayAndF g rest)) → Q (k h g)) → Q (last_or_f f k)
-unfolding last_or_f sayOrF
-last_or_f_lem (oneF g) Q k r = r no_or_f g (λ rest. refl)
-last_or_f_lem (orF f g) Q k r = r (after_or_f f) g (λ rest. refl)
+    → ((h : OrHoleF) (g : AndF) → ((rest : List Token) → say_or_f f rest ≡ say_or_hole_f h (say_and_f g rest)) → Q (k h g)) → Q (last_or_f f k)
+unfolding last_or_f say_or_f
+last_or_f_lem (one_f g) Q k r = r no_or_f g (λ rest. refl)
+last_or_f_lem (or_f f g) Q k r = r (after_or_f f) g (λ rest. refl)
 
 last_and_f_lem : (h : OrHoleF) (g : AndF) (Q : State → Type 0) (k : AndHoleF → ChopF → State)
-    → ((h' : AndHoleF) (c : ChopF) → ((rest : List Token) → say_or_hole_f h (sayAndF g rest) ≡ say_and_hole_f h' (sayChopF c rest)) → Q (k h' c))
+    → ((h' : AndHoleF) (c : ChopF) → ((rest : List Token) → say_or_hole_f h (say_and_f g rest) ≡ say_and_hole_f h' (say_chop_f c rest)) → Q (k h' c))
     → Q (last_and_f h g k)
-unfolding last_and_f sayAndF
-last_and_f_lem h (chainF c) Q k r = r (no_and_f h) c (λ rest. refl)
-last_and_f_lem h (andF g c) Q k r = r (after_and_f h g) c (λ rest. refl)
+unfolding last_and_f say_and_f
+last_and_f_lem h (chain_f c) Q k r = r (no_and_f h) c (λ rest. refl)
+last_and_f_lem h (and_f g c) Q k r = r (after_and_f h g) c (λ rest. refl)
 
 last_chop_f_lem : (h : AndHoleF) (c : ChopF) (Q : State → Type 0) (k : HoleF → UnitF → State)
-    → ((h' : HoleF) (u : UnitF) → ((rest : List Token) → say_and_hole_f h (sayChopF c rest) ≡ say_hole_f h' (sayUnitF u rest)) → Q (k h' u))
+    → ((h' : HoleF) (u : UnitF) → ((rest : List Token) → say_and_hole_f h (say_chop_f c rest) ≡ say_hole_f h' (say_unit_f u rest)) → Q (k h' u))
     → Q (last_chop_f h c k)
-unfolding last_chop_f sayChopF
-last_chop_f_lem h (unitF u) Q k r = r (no_chop_f h) u (λ rest. refl)
-last_chop_f_lem h (chopF c u) Q k r = r (after_chop_f h c) u (λ rest. refl)
+unfolding last_chop_f say_chop_f
+last_chop_f_lem h (unit_f u) Q k r = r (no_chop_f h) u (λ rest. refl)
+last_chop_f_lem h (chop_f c u) Q k r = r (after_chop_f h c) u (λ rest. refl)
 
 -- a star after a piece
 star_unit : (u : UnitF) (h : HoleF) (k : OrF → State) (said : Saying) → Reads (want_f h k) said
-    → Reads (starred u (has_unit_f h k)) (λ rest. said (sayUnitF u (plain star_sign ∷ rest)))
-unfolding Reads starred sayUnitF
+    → Reads (starred u (has_unit_f h k)) (λ rest. said (say_unit_f u (plain star_sign ∷ rest)))
+unfolding Reads starred say_unit_f
 star_unit (bracketF f) h k said r = has_unit_f_lem h k said r (starF f)
 star_unit (starF f) h k said r = tt
 star_unit (pointF p) h k said r = tt
 star_unit (stretchF p) h k said r = tt
 star_unit (wholeF p) h k said r = tt
 star_unit (braceF p) h k said r = tt
-star_unit (slenF c n) h k said r = tt
+star_unit (slen_f c n) h k said r = tt
 star_unit (scountF p c n) h k said r = tt
 star_unit (sdurF p c n) h k said r = tt
-star_unit (drawF q i) h k said r = tt
-star_unit (atF u) h k said r = tt
-star_unit (gapF u v a b) h k said r = tt
+star_unit (draw_f q i) h k said r = tt
+star_unit (at_f u) h k said r = tt
+star_unit (gap_f u v a b) h k said r = tt
 
 -- after a whole proposition or formula: a joiner, or what follows it
 step_have_p : (p : OrP) (k : OrP → State) (said : Saying) (t : Token) → Reads (have_p p k) said
@@ -341,8 +341,8 @@ step_have_p p k said t r follows =
     (if_plain_lem t and_sign _ _ said
     (last_or_p_lem p (λ s. Reads s (and_then said (plain and_sign))) (λ h q. about_unit_p (no_not_p (after_and_p h q)) k)
     (λ h q e. goes_on r (λ rest. plain and_sign ∷ rest) (say_hole_p (no_not_p (after_and_p h q))) (λ rest. e (plain and_sign ∷ rest))))
-    (same_said (step (k p) t) (and_then (λ rest. r.before (sayOrP p rest)) t) (and_then said t) (λ rest. sym (r.split (t ∷ rest)))
-    (follows (λ rest. r.before (sayOrP p rest)) (r.next p))))
+    (same_said (step (k p) t) (and_then (λ rest. r.before (say_or_p p rest)) t) (and_then said t) (λ rest. sym (r.split (t ∷ rest)))
+    (follows (λ rest. r.before (say_or_p p rest)) (r.next p))))
 
 step_have_f : (f : OrF) (k : OrF → State) (said : Saying) (t : Token) → Reads (have_f f k) said
     → ((said : Saying) → Reads (k f) said → Reads (step (k f) t) (and_then said t)) → Reads (step (have_f f k) t) (and_then said t)
@@ -362,13 +362,13 @@ step_have_f f k said t r follows =
     (λ h g e. last_and_f_lem h g (λ s. Reads s (and_then said (plain star_sign))) (λ h c. last_chop_f h c (λ h u. starred u (has_unit_f h k)))
     (λ h c e'. last_chop_f_lem h c (λ s. Reads s (and_then said (plain star_sign))) (λ h u. starred u (has_unit_f h k))
     (λ h u e''. star h u (λ rest. e rest ∙ e' rest ∙ e'' rest)))))
-    (same_said (step (k f) t) (and_then (λ rest. r.before (sayOrF f rest)) t) (and_then said t) (λ rest. sym (r.split (t ∷ rest)))
-    (follows (λ rest. r.before (sayOrF f rest)) (r.next f))))))
+    (same_said (step (k f) t) (and_then (λ rest. r.before (say_or_f f rest)) t) (and_then said t) (λ rest. sym (r.split (t ∷ rest)))
+    (follows (λ rest. r.before (say_or_f f rest)) (r.next f))))))
   where
-    star : (h : HoleF) (u : UnitF) → ((rest : List Token) → sayOrF f rest ≡ say_hole_f h (sayUnitF u rest))
+    star : (h : HoleF) (u : UnitF) → ((rest : List Token) → say_or_f f rest ≡ say_hole_f h (say_unit_f u rest))
         → Reads (starred u (has_unit_f h k)) (and_then said (plain star_sign))
     star h u e =
-        same_said (starred u (has_unit_f h k)) (λ rest. r.before (say_hole_f h (sayUnitF u (plain star_sign ∷ rest)))) (and_then said (plain star_sign))
+        same_said (starred u (has_unit_f h k)) (λ rest. r.before (say_hole_f h (say_unit_f u (plain star_sign ∷ rest)))) (and_then said (plain star_sign))
         (λ rest. ap r.before (sym (e (plain star_sign ∷ rest))) ∙ sym (r.split (plain star_sign ∷ rest)))
         (star_unit u h k (λ rest. r.before (say_hole_f h rest)) (record { before = r.before; split = λ rest. refl; next = r.next }))
 

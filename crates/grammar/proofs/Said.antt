@@ -7,8 +7,8 @@ use mathlib.Core.Option.{some}
 use Rattle.semantics.proofs.Tests.{and_left, and_right}
 use Rattle.semantics.specs.Formula.{Comparison, below, at_most, equal, at_least, above}
 use Rattle.grammar.specs.Token.{Token, plain, number, line_end, close_round, open_round, comparison_sign, close_square, close_squares, close_braces, or_sign, and_sign, chop_sign, star_sign, comma_sign, colon_sign}
-use Rattle.grammar.specs.Tree.{OrP, oneP, orP, AndP, unitP, andP, UnitP, trueP, falseP, signalP, nameP, notP, bracketP, OrF, oneF, orF, AndF, chainF, andF, ChopF, unitF, chopF, UnitF, pointF, stretchF, wholeF, braceF, slenF, scountF, sdurF, drawF, atF, gapF, bracketF, starF, TypedPart, TypedClause, pref_c, anti_c, init_c, implies_c, follows_c, triggers_c, Line, assume_l, require_l, TypedSheet}
-use Rattle.grammar.specs.Spelled.{sayOrP, sayAndP, sayUnitP, say_compared, sayOrF, sayAndF, sayChopF, sayUnitF, say_names, say_part, say_clause, say_line, say_lines, say_sheet, none_twice, clause_single, lines_single}
+use Rattle.grammar.specs.Tree.{OrP, one_p, or_p, AndP, unit_p, and_p, UnitP, trueP, falseP, signalP, nameP, not_p, bracket_p, OrF, one_f, or_f, AndF, chain_f, and_f, ChopF, unit_f, chop_f, UnitF, pointF, stretchF, wholeF, braceF, slen_f, scountF, sdurF, draw_f, at_f, gap_f, bracketF, starF, TypedPart, TypedClause, pref_c, anti_c, init_c, implies_c, follows_c, triggers_c, Line, assume_l, require_l, TypedSheet}
+use Rattle.grammar.specs.Spelled.{say_or_p, say_and_p, say_unit_p, say_compared, say_or_f, say_and_f, say_chop_f, say_unit_f, say_names, say_part, say_clause, say_line, say_lines, say_sheet, none_twice, clause_single, lines_single}
 use Rattle.grammar.proofs.Names.{new_name}
 use Rattle.grammar.specs.Reader.{OrHoleP, no_or_p, after_or_p, no_and_p, after_and_p, HoleP, no_not_p, after_not_p, OrHoleF, no_or_f, after_or_f, AndHoleF, no_and_f, after_and_f, HoleF, no_chop_f, after_chop_f, fill_or_p, fill_and_p, fill_p, fill_or_f, fill_and_f, fill_f, State, failed, sign, a_number, a_comparison, more_names, a_clause, at_line, about_or_p, has_or_p, about_and_p, has_and_p, about_unit_p, has_unit_p, about_or_f, has_or_f, about_and_f, has_and_f, about_chop_f, has_chop_f, about_unit_f, has_unit_f, about_part, has_part, one_part, two_parts, three_parts, a_line, last_or_p, last_or_f, last_and_f, last_chop_f, starred, if_plain, if_number, if_name, if_signal, start_p, start_f, step, read, one_less, room_after, if_room, step_in, run, start, answer, parse, nots, after_nots}
 
@@ -27,29 +27,29 @@ and_next_p (after_or_p p) q k = refl
 pub fill_nots : (n : ℕ) (h : HoleP) (u : UnitP) → fill_p (after_nots n h) u ≡ fill_p h (nots n u)
 unfolding computing after_nots nots
 fill_nots zero h u = refl
-fill_nots (suc n) h u = fill_nots n h (notP u)
+fill_nots (suc n) h u = fill_nots n h (not_p u)
 
 mutual
-  unfolding computing sayOrP sayAndP sayUnitP
+  unfolding computing say_or_p say_and_p say_unit_p
 
-  pub said-OrP : (p : OrP) (k : OrP → State) (rest : List Token) → read (about_or_p k) (sayOrP p rest) ≡ read (has_or_p k p) rest
-  said-OrP (oneP q) k rest = said-AndP q no_or_p k rest
-  said-OrP (orP p q) k rest = said-OrP p k (plain or_sign ∷ sayAndP q rest) ∙ said-AndP q (after_or_p p) k rest
+  pub said_or_p : (p : OrP) (k : OrP → State) (rest : List Token) → read (about_or_p k) (say_or_p p rest) ≡ read (has_or_p k p) rest
+  said_or_p (one_p q) k rest = said_and_p q no_or_p k rest
+  said_or_p (or_p p q) k rest = said_or_p p k (plain or_sign ∷ say_and_p q rest) ∙ said_and_p q (after_or_p p) k rest
 
-  pub said-AndP : (q : AndP) (h : OrHoleP) (k : OrP → State) (rest : List Token) → read (about_and_p h k) (sayAndP q rest) ≡ read (has_and_p h k q) rest
-  said-AndP (unitP u) h k rest = said-UnitP u (no_not_p (no_and_p h)) k rest
-  said-AndP (andP q u) h k rest =
-      said-AndP q h k (plain and_sign ∷ sayUnitP u rest) ∙ ap (λ s. read s (sayUnitP u rest)) (and_next_p h q k)
-      ∙ said-UnitP u (no_not_p (after_and_p h q)) k rest
+  pub said_and_p : (q : AndP) (h : OrHoleP) (k : OrP → State) (rest : List Token) → read (about_and_p h k) (say_and_p q rest) ≡ read (has_and_p h k q) rest
+  said_and_p (unit_p u) h k rest = said_unit_p u (no_not_p (no_and_p h)) k rest
+  said_and_p (and_p q u) h k rest =
+      said_and_p q h k (plain and_sign ∷ say_unit_p u rest) ∙ ap (λ s. read s (say_unit_p u rest)) (and_next_p h q k)
+      ∙ said_unit_p u (no_not_p (after_and_p h q)) k rest
 
-  pub said-UnitP : (u : UnitP) (h : HoleP) (k : OrP → State) (rest : List Token)
-      → read (about_unit_p h k) (sayUnitP u rest) ≡ read (has_unit_p h k u) rest
-  said-UnitP trueP h k rest = refl
-  said-UnitP falseP h k rest = refl
-  said-UnitP (signalP i) h k rest = refl
-  said-UnitP (nameP u) h k rest = refl
-  said-UnitP (notP u) h k rest = said-UnitP u (after_not_p h) k rest
-  said-UnitP (bracketP p) h k rest = said-OrP p (λ p. sign close_round (has_unit_p h k (bracketP p))) (plain close_round ∷ rest)
+  pub said_unit_p : (u : UnitP) (h : HoleP) (k : OrP → State) (rest : List Token)
+      → read (about_unit_p h k) (say_unit_p u rest) ≡ read (has_unit_p h k u) rest
+  said_unit_p trueP h k rest = refl
+  said_unit_p falseP h k rest = refl
+  said_unit_p (signalP i) h k rest = refl
+  said_unit_p (nameP u) h k rest = refl
+  said_unit_p (not_p u) h k rest = said_unit_p u (after_not_p h) k rest
+  said_unit_p (bracket_p p) h k rest = said_or_p p (λ p. sign close_round (has_unit_p h k (bracket_p p))) (plain close_round ∷ rest)
 
 -- & after an operand of |, ^ after an operand of &, a star after a bracketed formula
 pub and_next_f : (h : OrHoleF) (g : AndF) (k : OrF → State) → step (has_and_f h k g) (plain and_sign) ≡ about_chop_f (after_and_f h g) k
@@ -89,45 +89,45 @@ unfolding computing say_compared
 said_compared c n k rest = ap (λ s. read s (number n ∷ rest)) (said_comparison c (λ c. a_number (k c)))
 
 mutual
-  unfolding computing sayOrF sayAndF sayChopF sayUnitF
+  unfolding computing say_or_f say_and_f say_chop_f say_unit_f
 
-  pub said-OrF : (f : OrF) (k : OrF → State) (rest : List Token) → read (about_or_f k) (sayOrF f rest) ≡ read (has_or_f k f) rest
-  said-OrF (oneF g) k rest = said-AndF g no_or_f k rest
-  said-OrF (orF f g) k rest = said-OrF f k (plain or_sign ∷ sayAndF g rest) ∙ said-AndF g (after_or_f f) k rest
+  pub said_or_f : (f : OrF) (k : OrF → State) (rest : List Token) → read (about_or_f k) (say_or_f f rest) ≡ read (has_or_f k f) rest
+  said_or_f (one_f g) k rest = said_and_f g no_or_f k rest
+  said_or_f (or_f f g) k rest = said_or_f f k (plain or_sign ∷ say_and_f g rest) ∙ said_and_f g (after_or_f f) k rest
 
-  pub said-AndF : (g : AndF) (h : OrHoleF) (k : OrF → State) (rest : List Token) → read (about_and_f h k) (sayAndF g rest) ≡ read (has_and_f h k g) rest
-  said-AndF (chainF c) h k rest = said-ChopF c (no_and_f h) k rest
-  said-AndF (andF g c) h k rest =
-      said-AndF g h k (plain and_sign ∷ sayChopF c rest) ∙ ap (λ s. read s (sayChopF c rest)) (and_next_f h g k)
-      ∙ said-ChopF c (after_and_f h g) k rest
+  pub said_and_f : (g : AndF) (h : OrHoleF) (k : OrF → State) (rest : List Token) → read (about_and_f h k) (say_and_f g rest) ≡ read (has_and_f h k g) rest
+  said_and_f (chain_f c) h k rest = said_chop_f c (no_and_f h) k rest
+  said_and_f (and_f g c) h k rest =
+      said_and_f g h k (plain and_sign ∷ say_chop_f c rest) ∙ ap (λ s. read s (say_chop_f c rest)) (and_next_f h g k)
+      ∙ said_chop_f c (after_and_f h g) k rest
 
-  pub said-ChopF : (c : ChopF) (h : AndHoleF) (k : OrF → State) (rest : List Token)
-      → read (about_chop_f h k) (sayChopF c rest) ≡ read (has_chop_f h k c) rest
-  said-ChopF (unitF u) h k rest = said-UnitF u (no_chop_f h) k rest
-  said-ChopF (chopF c u) h k rest =
-      said-ChopF c h k (plain chop_sign ∷ sayUnitF u rest) ∙ ap (λ s. read s (sayUnitF u rest)) (chop_next_f h c k)
-      ∙ said-UnitF u (after_chop_f h c) k rest
+  pub said_chop_f : (c : ChopF) (h : AndHoleF) (k : OrF → State) (rest : List Token)
+      → read (about_chop_f h k) (say_chop_f c rest) ≡ read (has_chop_f h k c) rest
+  said_chop_f (unit_f u) h k rest = said_unit_f u (no_chop_f h) k rest
+  said_chop_f (chop_f c u) h k rest =
+      said_chop_f c h k (plain chop_sign ∷ say_unit_f u rest) ∙ ap (λ s. read s (say_unit_f u rest)) (chop_next_f h c k)
+      ∙ said_unit_f u (after_chop_f h c) k rest
 
-  pub said-UnitF : (u : UnitF) (h : HoleF) (k : OrF → State) (rest : List Token)
-      → read (about_unit_f h k) (sayUnitF u rest) ≡ read (has_unit_f h k u) rest
-  said-UnitF (pointF p) h k rest =
-      said-OrP p (λ p. sign (comparison_sign above) (has_unit_f h k (pointF p))) (plain (comparison_sign above) ∷ rest)
-  said-UnitF (stretchF p) h k rest = said-OrP p (λ p. sign close_square (has_unit_f h k (stretchF p))) (plain close_square ∷ rest)
-  said-UnitF (wholeF p) h k rest = said-OrP p (λ p. sign close_squares (has_unit_f h k (wholeF p))) (plain close_squares ∷ rest)
-  said-UnitF (braceF p) h k rest = said-OrP p (λ p. sign close_braces (has_unit_f h k (braceF p))) (plain close_braces ∷ rest)
-  said-UnitF (slenF c n) h k rest = said_compared c n (λ c n. has_unit_f h k (slenF c n)) rest
-  said-UnitF (scountF p c n) h k rest =
-      said-OrP p (λ p. sign close_round (a_comparison (λ c. a_number (λ n. has_unit_f h k (scountF p c n))))) (plain close_round ∷ say_compared c n rest)
+  pub said_unit_f : (u : UnitF) (h : HoleF) (k : OrF → State) (rest : List Token)
+      → read (about_unit_f h k) (say_unit_f u rest) ≡ read (has_unit_f h k u) rest
+  said_unit_f (pointF p) h k rest =
+      said_or_p p (λ p. sign (comparison_sign above) (has_unit_f h k (pointF p))) (plain (comparison_sign above) ∷ rest)
+  said_unit_f (stretchF p) h k rest = said_or_p p (λ p. sign close_square (has_unit_f h k (stretchF p))) (plain close_square ∷ rest)
+  said_unit_f (wholeF p) h k rest = said_or_p p (λ p. sign close_squares (has_unit_f h k (wholeF p))) (plain close_squares ∷ rest)
+  said_unit_f (braceF p) h k rest = said_or_p p (λ p. sign close_braces (has_unit_f h k (braceF p))) (plain close_braces ∷ rest)
+  said_unit_f (slen_f c n) h k rest = said_compared c n (λ c n. has_unit_f h k (slen_f c n)) rest
+  said_unit_f (scountF p c n) h k rest =
+      said_or_p p (λ p. sign close_round (a_comparison (λ c. a_number (λ n. has_unit_f h k (scountF p c n))))) (plain close_round ∷ say_compared c n rest)
       ∙ said_compared c n (λ c n. has_unit_f h k (scountF p c n)) rest
-  said-UnitF (sdurF p c n) h k rest =
-      said-OrP p (λ p. sign close_round (a_comparison (λ c. a_number (λ n. has_unit_f h k (sdurF p c n))))) (plain close_round ∷ say_compared c n rest)
+  said_unit_f (sdurF p c n) h k rest =
+      said_or_p p (λ p. sign close_round (a_comparison (λ c. a_number (λ n. has_unit_f h k (sdurF p c n))))) (plain close_round ∷ say_compared c n rest)
       ∙ said_compared c n (λ c n. has_unit_f h k (sdurF p c n)) rest
-  said-UnitF (drawF q i) h k rest = refl
-  said-UnitF (atF u) h k rest = refl
-  said-UnitF (gapF u v a b) h k rest = refl
-  said-UnitF (bracketF f) h k rest = said-OrF f (λ f. sign close_round (has_unit_f h k (bracketF f))) (plain close_round ∷ rest)
-  said-UnitF (starF f) h k rest =
-      said-OrF f (λ f. sign close_round (has_unit_f h k (bracketF f))) (plain close_round ∷ plain star_sign ∷ rest)
+  said_unit_f (draw_f q i) h k rest = refl
+  said_unit_f (at_f u) h k rest = refl
+  said_unit_f (gap_f u v a b) h k rest = refl
+  said_unit_f (bracketF f) h k rest = said_or_f f (λ f. sign close_round (has_unit_f h k (bracketF f))) (plain close_round ∷ rest)
+  said_unit_f (starF f) h k rest =
+      said_or_f f (λ f. sign close_round (has_unit_f h k (bracketF f))) (plain close_round ∷ plain star_sign ∷ rest)
       ∙ ap (λ s. read s rest) (star_next_f h f k)
 
 pub said_names : (us vs : List ℕ) (k : List ℕ → State) (rest : List Token) → none_twice (us ++ vs) ≡ true
@@ -143,7 +143,7 @@ pub said_part : (d : TypedPart) (k : TypedPart → State) (rest : List Token) �
     → read (about_part k) (say_part d rest) ≡ read (has_part k d) rest
 unfolding computing say_part
 said_part d k rest single =
-    said-OrF d.formula (λ f. sign colon_sign (more_names [] (λ us. k (record { formula = f; names = us }))))
+    said_or_f d.formula (λ f. sign colon_sign (more_names [] (λ us. k (record { formula = f; names = us }))))
     (plain colon_sign ∷ say_names d.names rest)
     ∙ said_names [] d.names (λ us. k (record { formula = d.formula; names = us })) rest single
 

@@ -4,7 +4,7 @@ use Rattle.std.specs.Prelude.{ℕ, zero, suc, cond, List, [], ◌∷◌, ◌++�
 use Rattle.std.proofs.Math.Option.{Option, none, some}
 use Rattle.semantics.specs.Formula.{Comparison, below, at_most, equal, at_least, above}
 use Rattle.grammar.specs.Token.{Token, plain, signalled, named, number, outside, line_end, assume_word, require_word, type_word, true_word, false_word, slen_word, scount_word, sdur_word, draw_word, at_word, gap_word, comparison_sign, open_round, close_round, open_square, close_square, open_squares, close_squares, open_braces, close_braces, or_sign, and_sign, chop_sign, not_sign, star_sign, colon_sign, comma_sign}
-use Rattle.grammar.specs.Tree.{OrP, oneP, orP, AndP, unitP, andP, UnitP, trueP, falseP, signalP, nameP, notP, bracketP, OrF, oneF, orF, AndF, chainF, andF, ChopF, unitF, chopF, UnitF, pointF, stretchF, wholeF, braceF, slenF, scountF, sdurF, drawF, atF, gapF, bracketF, starF, TypedPart, TypedClause, pref_c, anti_c, init_c, implies_c, follows_c, triggers_c, Line, assume_l, require_l, TypedSheet}
+use Rattle.grammar.specs.Tree.{OrP, one_p, or_p, AndP, unit_p, and_p, UnitP, trueP, falseP, signalP, nameP, not_p, bracket_p, OrF, one_f, or_f, AndF, chain_f, and_f, ChopF, unit_f, chop_f, UnitF, pointF, stretchF, wholeF, braceF, slen_f, scountF, sdurF, draw_f, at_f, gap_f, bracketF, starF, TypedPart, TypedClause, pref_c, anti_c, init_c, implies_c, follows_c, triggers_c, Line, assume_l, require_l, TypedSheet}
 use Rattle.grammar.specs.Spelled.{is_among}
 
 -- What stands before an operand in a proposition: of |, of &, of any number of !
@@ -35,37 +35,37 @@ pub data HoleF : Type 0 where
 
 -- the tree with the operand in its place
 unfoldable pub fill_or_p : OrHoleP → AndP → OrP
-fill_or_p no_or_p q = oneP q
-fill_or_p (after_or_p p) q = orP p q
+fill_or_p no_or_p q = one_p q
+fill_or_p (after_or_p p) q = or_p p q
 
 unfoldable pub fill_and_p : AndHoleP → UnitP → OrP
-fill_and_p (no_and_p h) u = fill_or_p h (unitP u)
-fill_and_p (after_and_p h q) u = fill_or_p h (andP q u)
+fill_and_p (no_and_p h) u = fill_or_p h (unit_p u)
+fill_and_p (after_and_p h q) u = fill_or_p h (and_p q u)
 
 unfoldable pub fill_p : HoleP → UnitP → OrP
 fill_p (no_not_p h) u = fill_and_p h u
-fill_p (after_not_p h) u = fill_p h (notP u)
+fill_p (after_not_p h) u = fill_p h (not_p u)
 
 -- n times !: over a piece, and before one
 unfoldable pub nots : ℕ → UnitP → UnitP
 nots zero u = u
-nots (suc n) u = nots n (notP u)
+nots (suc n) u = nots n (not_p u)
 
 unfoldable pub after_nots : ℕ → HoleP → HoleP
 after_nots zero h = h
 after_nots (suc n) h = after_not_p (after_nots n h)
 
 unfoldable pub fill_or_f : OrHoleF → AndF → OrF
-fill_or_f no_or_f g = oneF g
-fill_or_f (after_or_f f) g = orF f g
+fill_or_f no_or_f g = one_f g
+fill_or_f (after_or_f f) g = or_f f g
 
 unfoldable pub fill_and_f : AndHoleF → ChopF → OrF
-fill_and_f (no_and_f h) c = fill_or_f h (chainF c)
-fill_and_f (after_and_f h g) c = fill_or_f h (andF g c)
+fill_and_f (no_and_f h) c = fill_or_f h (chain_f c)
+fill_and_f (after_and_f h g) c = fill_or_f h (and_f g c)
 
 unfoldable pub fill_f : HoleF → UnitF → OrF
-fill_f (no_chop_f h) u = fill_and_f h (unitF u)
-fill_f (after_chop_f h c) u = fill_and_f h (chopF c u)
+fill_f (no_chop_f h) u = fill_and_f h (unit_f u)
+fill_f (after_chop_f h c) u = fill_and_f h (chop_f c u)
 
 -- What is to be read next, and what is read after it. A failed state stays failed.
 pub data State : Type 0 where
@@ -154,20 +154,20 @@ a_line l s m ls = a_clause (λ c. sign line_end (at_line s m (ls ++ l c ∷ []))
 
 -- the last operand of |, of & and of ^, which the next &, ^ or star takes
 unfoldable pub last_or_p : {A : Type 0} → OrP → (OrHoleP → AndP → A) → A
-last_or_p (oneP q) k = k no_or_p q
-last_or_p (orP p q) k = k (after_or_p p) q
+last_or_p (one_p q) k = k no_or_p q
+last_or_p (or_p p q) k = k (after_or_p p) q
 
 unfoldable pub last_or_f : {A : Type 0} → OrF → (OrHoleF → AndF → A) → A
-last_or_f (oneF g) k = k no_or_f g
-last_or_f (orF f g) k = k (after_or_f f) g
+last_or_f (one_f g) k = k no_or_f g
+last_or_f (or_f f g) k = k (after_or_f f) g
 
 unfoldable pub last_and_f : {A : Type 0} → OrHoleF → AndF → (AndHoleF → ChopF → A) → A
-last_and_f h (chainF c) k = k (no_and_f h) c
-last_and_f h (andF g c) k = k (after_and_f h g) c
+last_and_f h (chain_f c) k = k (no_and_f h) c
+last_and_f h (and_f g c) k = k (after_and_f h g) c
 
 unfoldable pub last_chop_f : {A : Type 0} → AndHoleF → ChopF → (HoleF → UnitF → A) → A
-last_chop_f h (unitF u) k = k (no_chop_f h) u
-last_chop_f h (chopF c u) k = k (after_chop_f h c) u
+last_chop_f h (unit_f u) k = k (no_chop_f h) u
+last_chop_f h (chop_f c u) k = k (after_chop_f h c) u
 
 -- a star after a piece: only after a bracketed formula
 unfoldable pub starred : UnitF → (UnitF → State) → State
@@ -177,12 +177,12 @@ starred (pointF p) k = failed
 starred (stretchF p) k = failed
 starred (wholeF p) k = failed
 starred (braceF p) k = failed
-starred (slenF c n) k = failed
+starred (slen_f c n) k = failed
 starred (scountF p c n) k = failed
 starred (sdurF p c n) k = failed
-starred (drawF q s) k = failed
-starred (atF u) k = failed
-starred (gapF u v a b) k = failed
+starred (draw_f q s) k = failed
+starred (at_f u) k = failed
+starred (gap_f u v a b) k = failed
 
 -- the state s where the token is this word or sign, carries a number, a name, a signal, else `other`
 unfoldable pub if_plain : Token → ℕ → State → State → State
@@ -219,7 +219,7 @@ start_p h k t =
     if_plain t true_word (has_unit_p h k trueP)
     (if_plain t false_word (has_unit_p h k falseP)
     (if_plain t not_sign (about_unit_p (after_not_p h) k)
-    (if_plain t open_round (about_or_p (λ p. sign close_round (has_unit_p h k (bracketP p))))
+    (if_plain t open_round (about_or_p (λ p. sign close_round (has_unit_p h k (bracket_p p))))
     (if_signal t (λ i. has_unit_p h k (signalP i)) (if_name t (λ u. has_unit_p h k (nameP u)) failed)))))
 
 unfoldable pub start_f : HoleF → (OrF → State) → Token → State
@@ -228,18 +228,18 @@ start_f h k t =
     (if_plain t open_square (about_or_p (λ p. sign close_square (has_unit_f h k (stretchF p))))
     (if_plain t open_squares (about_or_p (λ p. sign close_squares (has_unit_f h k (wholeF p))))
     (if_plain t open_braces (about_or_p (λ p. sign close_braces (has_unit_f h k (braceF p))))
-    (if_plain t slen_word (a_comparison (λ c. a_number (λ n. has_unit_f h k (slenF c n))))
+    (if_plain t slen_word (a_comparison (λ c. a_number (λ n. has_unit_f h k (slen_f c n))))
     (if_plain t scount_word
     (sign open_round (about_or_p (λ p. sign close_round (a_comparison (λ c. a_number (λ n. has_unit_f h k (scountF p c n)))))))
     (if_plain t sdur_word
     (sign open_round (about_or_p (λ p. sign close_round (a_comparison (λ c. a_number (λ n. has_unit_f h k (sdurF p c n)))))))
     (if_plain t draw_word
-    (sign open_round (a_number (λ q. sign comma_sign (a_signal (λ i. sign close_round (has_unit_f h k (drawF q i)))))))
-    (if_plain t at_word (sign open_round (a_name (λ u. sign close_round (has_unit_f h k (atF u)))))
+    (sign open_round (a_number (λ q. sign comma_sign (a_signal (λ i. sign close_round (has_unit_f h k (draw_f q i)))))))
+    (if_plain t at_word (sign open_round (a_name (λ u. sign close_round (has_unit_f h k (at_f u)))))
     (if_plain t gap_word
     (sign open_round
     (a_name (λ u. sign comma_sign (a_name (λ v. sign comma_sign
-    (a_number (λ a. sign comma_sign (a_number (λ b. sign close_round (has_unit_f h k (gapF u v a b)))))))))))
+    (a_number (λ a. sign comma_sign (a_number (λ b. sign close_round (has_unit_f h k (gap_f u v a b)))))))))))
     (if_plain t open_round (about_or_f (λ f. sign close_round (has_unit_f h k (bracketF f)))) failed))))))))))
 
 unfoldable pub step : State → Token → State

@@ -2,64 +2,64 @@
 use Rattle.std.specs.Prelude.{ℕ, ◌-◌, Bool, true, false, not, ◌&&◌, ◌||◌, List, [], ◌∷◌, ◌≡◌, eqb, length, get_or}
 use Rattle.semantics.specs.Formula.{Comparison, below, above}
 use Rattle.grammar.specs.Token.{Token, plain, signalled, named, number, line_end, assume_word, require_word, type_word, true_word, false_word, slen_word, scount_word, sdur_word, draw_word, at_word, gap_word, comparison_sign, open_round, close_round, open_square, close_square, open_squares, close_squares, open_braces, close_braces, or_sign, and_sign, chop_sign, not_sign, star_sign, colon_sign, comma_sign, is_line_end, tokens}
-use Rattle.grammar.specs.Tree.{OrP, oneP, orP, AndP, unitP, andP, UnitP, trueP, falseP, signalP, nameP, notP, bracketP, OrF, oneF, orF, AndF, chainF, andF, ChopF, unitF, chopF, UnitF, pointF, stretchF, wholeF, braceF, slenF, scountF, sdurF, drawF, atF, gapF, bracketF, starF, TypedPart, TypedClause, pref_c, anti_c, init_c, implies_c, follows_c, triggers_c, Line, assume_l, require_l, TypedSheet}
+use Rattle.grammar.specs.Tree.{OrP, one_p, or_p, AndP, unit_p, and_p, UnitP, trueP, falseP, signalP, nameP, not_p, bracket_p, OrF, one_f, or_f, AndF, chain_f, and_f, ChopF, unit_f, chop_f, UnitF, pointF, stretchF, wholeF, braceF, slen_f, scountF, sdurF, draw_f, at_f, gap_f, bracketF, starF, TypedPart, TypedClause, pref_c, anti_c, init_c, implies_c, follows_c, triggers_c, Line, assume_l, require_l, TypedSheet}
 
 unfoldable mutual
-  pub sayOrP : OrP → List Token → List Token
-  sayOrP (oneP p) rest = sayAndP p rest
-  sayOrP (orP p q) rest = sayOrP p (plain or_sign ∷ sayAndP q rest)
+  pub say_or_p : OrP → List Token → List Token
+  say_or_p (one_p p) rest = say_and_p p rest
+  say_or_p (or_p p q) rest = say_or_p p (plain or_sign ∷ say_and_p q rest)
 
-  pub sayAndP : AndP → List Token → List Token
-  sayAndP (unitP p) rest = sayUnitP p rest
-  sayAndP (andP p q) rest = sayAndP p (plain and_sign ∷ sayUnitP q rest)
+  pub say_and_p : AndP → List Token → List Token
+  say_and_p (unit_p p) rest = say_unit_p p rest
+  say_and_p (and_p p q) rest = say_and_p p (plain and_sign ∷ say_unit_p q rest)
 
-  pub sayUnitP : UnitP → List Token → List Token
-  sayUnitP trueP rest = plain true_word ∷ rest
-  sayUnitP falseP rest = plain false_word ∷ rest
-  sayUnitP (signalP k) rest = signalled k ∷ rest
-  sayUnitP (nameP u) rest = named u ∷ rest
-  sayUnitP (notP p) rest = plain not_sign ∷ sayUnitP p rest
-  sayUnitP (bracketP p) rest = plain open_round ∷ sayOrP p (plain close_round ∷ rest)
+  pub say_unit_p : UnitP → List Token → List Token
+  say_unit_p trueP rest = plain true_word ∷ rest
+  say_unit_p falseP rest = plain false_word ∷ rest
+  say_unit_p (signalP k) rest = signalled k ∷ rest
+  say_unit_p (nameP u) rest = named u ∷ rest
+  say_unit_p (not_p p) rest = plain not_sign ∷ say_unit_p p rest
+  say_unit_p (bracket_p p) rest = plain open_round ∷ say_or_p p (plain close_round ∷ rest)
 
 -- compared by c with n
 unfoldable pub say_compared : Comparison → ℕ → List Token → List Token
 say_compared c n rest = plain (comparison_sign c) ∷ number n ∷ rest
 
 unfoldable mutual
-  pub sayOrF : OrF → List Token → List Token
-  sayOrF (oneF f) rest = sayAndF f rest
-  sayOrF (orF f g) rest = sayOrF f (plain or_sign ∷ sayAndF g rest)
+  pub say_or_f : OrF → List Token → List Token
+  say_or_f (one_f f) rest = say_and_f f rest
+  say_or_f (or_f f g) rest = say_or_f f (plain or_sign ∷ say_and_f g rest)
 
-  pub sayAndF : AndF → List Token → List Token
-  sayAndF (chainF f) rest = sayChopF f rest
-  sayAndF (andF f g) rest = sayAndF f (plain and_sign ∷ sayChopF g rest)
+  pub say_and_f : AndF → List Token → List Token
+  say_and_f (chain_f f) rest = say_chop_f f rest
+  say_and_f (and_f f g) rest = say_and_f f (plain and_sign ∷ say_chop_f g rest)
 
-  pub sayChopF : ChopF → List Token → List Token
-  sayChopF (unitF f) rest = sayUnitF f rest
-  sayChopF (chopF f g) rest = sayChopF f (plain chop_sign ∷ sayUnitF g rest)
+  pub say_chop_f : ChopF → List Token → List Token
+  say_chop_f (unit_f f) rest = say_unit_f f rest
+  say_chop_f (chop_f f g) rest = say_chop_f f (plain chop_sign ∷ say_unit_f g rest)
 
-  pub sayUnitF : UnitF → List Token → List Token
-  sayUnitF (pointF p) rest = plain (comparison_sign below) ∷ sayOrP p (plain (comparison_sign above) ∷ rest)
-  sayUnitF (stretchF p) rest = plain open_square ∷ sayOrP p (plain close_square ∷ rest)
-  sayUnitF (wholeF p) rest = plain open_squares ∷ sayOrP p (plain close_squares ∷ rest)
-  sayUnitF (braceF p) rest = plain open_braces ∷ sayOrP p (plain close_braces ∷ rest)
-  sayUnitF (slenF c n) rest = plain slen_word ∷ say_compared c n rest
-  sayUnitF (scountF p c n) rest = plain scount_word ∷ plain open_round ∷ sayOrP p (plain close_round ∷ say_compared c n rest)
-  sayUnitF (sdurF p c n) rest = plain sdur_word ∷ plain open_round ∷ sayOrP p (plain close_round ∷ say_compared c n rest)
-  sayUnitF (drawF q k) rest = plain draw_word ∷ plain open_round ∷ number q ∷ plain comma_sign ∷ signalled k ∷ plain close_round ∷ rest
-  sayUnitF (atF u) rest = plain at_word ∷ plain open_round ∷ named u ∷ plain close_round ∷ rest
-  sayUnitF (gapF u v a b) rest =
+  pub say_unit_f : UnitF → List Token → List Token
+  say_unit_f (pointF p) rest = plain (comparison_sign below) ∷ say_or_p p (plain (comparison_sign above) ∷ rest)
+  say_unit_f (stretchF p) rest = plain open_square ∷ say_or_p p (plain close_square ∷ rest)
+  say_unit_f (wholeF p) rest = plain open_squares ∷ say_or_p p (plain close_squares ∷ rest)
+  say_unit_f (braceF p) rest = plain open_braces ∷ say_or_p p (plain close_braces ∷ rest)
+  say_unit_f (slen_f c n) rest = plain slen_word ∷ say_compared c n rest
+  say_unit_f (scountF p c n) rest = plain scount_word ∷ plain open_round ∷ say_or_p p (plain close_round ∷ say_compared c n rest)
+  say_unit_f (sdurF p c n) rest = plain sdur_word ∷ plain open_round ∷ say_or_p p (plain close_round ∷ say_compared c n rest)
+  say_unit_f (draw_f q k) rest = plain draw_word ∷ plain open_round ∷ number q ∷ plain comma_sign ∷ signalled k ∷ plain close_round ∷ rest
+  say_unit_f (at_f u) rest = plain at_word ∷ plain open_round ∷ named u ∷ plain close_round ∷ rest
+  say_unit_f (gap_f u v a b) rest =
       plain gap_word ∷ plain open_round ∷ named u ∷ plain comma_sign ∷ named v
       ∷ plain comma_sign ∷ number a ∷ plain comma_sign ∷ number b ∷ plain close_round ∷ rest
-  sayUnitF (bracketF f) rest = plain open_round ∷ sayOrF f (plain close_round ∷ rest)
-  sayUnitF (starF f) rest = plain open_round ∷ sayOrF f (plain close_round ∷ plain star_sign ∷ rest)
+  say_unit_f (bracketF f) rest = plain open_round ∷ say_or_f f (plain close_round ∷ rest)
+  say_unit_f (starF f) rest = plain open_round ∷ say_or_f f (plain close_round ∷ plain star_sign ∷ rest)
 
 unfoldable pub say_names : List ℕ → List Token → List Token
 say_names [] rest = rest
 say_names (u ∷ more) rest = named u ∷ say_names more rest
 
 unfoldable pub say_part : TypedPart → List Token → List Token
-say_part d rest = sayOrF d.formula (plain colon_sign ∷ say_names d.names rest)
+say_part d rest = say_or_f d.formula (plain colon_sign ∷ say_names d.names rest)
 
 unfoldable pub say_clause : TypedClause → List Token → List Token
 say_clause (pref_c d) rest = plain (type_word 1) ∷ plain open_round ∷ say_part d (plain close_round ∷ rest)

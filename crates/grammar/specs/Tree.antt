@@ -6,43 +6,43 @@ use Rattle.semantics.specs.Formula.{Comparison}
 mutual
   -- a proposition; what & joins; a single piece
   pub data OrP : Type 0 where
-    oneP : AndP → OrP
-    orP : OrP → AndP → OrP
+    one_p : AndP → OrP
+    or_p : OrP → AndP → OrP
 
   pub data AndP : Type 0 where
-    unitP : UnitP → AndP
-    andP : AndP → UnitP → AndP
+    unit_p : UnitP → AndP
+    and_p : AndP → UnitP → AndP
 
   pub data UnitP : Type 0 where
     trueP falseP : UnitP
     signalP nameP : ℕ → UnitP
-    notP : UnitP → UnitP
-    bracketP : OrP → UnitP
+    not_p : UnitP → UnitP
+    bracket_p : OrP → UnitP
 
 mutual
   -- a formula; what & joins; what ^ joins; a single piece
   pub data OrF : Type 0 where
-    oneF : AndF → OrF
-    orF : OrF → AndF → OrF
+    one_f : AndF → OrF
+    or_f : OrF → AndF → OrF
 
   pub data AndF : Type 0 where
-    chainF : ChopF → AndF
-    andF : AndF → ChopF → AndF
+    chain_f : ChopF → AndF
+    and_f : AndF → ChopF → AndF
 
   pub data ChopF : Type 0 where
-    unitF : UnitF → ChopF
-    chopF : ChopF → UnitF → ChopF
+    unit_f : UnitF → ChopF
+    chop_f : ChopF → UnitF → ChopF
 
   pub data UnitF : Type 0 where
     -- <a>, [a], [[a]], {{a}}
     pointF stretchF wholeF braceF : OrP → UnitF
     -- slen, scount, sdur compared with a number
-    slenF : Comparison → ℕ → UnitF
+    slen_f : Comparison → ℕ → UnitF
     scountF sdurF : OrP → Comparison → ℕ → UnitF
     -- draw(q, signal), at(name), gap(name, name, a, b)
-    drawF : ℕ → ℕ → UnitF
-    atF : ℕ → UnitF
-    gapF : ℕ → ℕ → ℕ → ℕ → UnitF
+    draw_f : ℕ → ℕ → UnitF
+    at_f : ℕ → UnitF
+    gap_f : ℕ → ℕ → ℕ → ℕ → UnitF
     -- (f), (f)*
     bracketF starF : OrF → UnitF
 

@@ -1,1 +1,3 @@
 // Typed sheets: their words, their grammar, and how a text is read. Definitions and laws alone.
+#![tactic(auto)]
+

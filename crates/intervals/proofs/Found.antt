@@ -126,20 +126,20 @@ unfolding row
 first_starts n i first = masked_row n first (λ i j. bit first j) i (λ e a b. refl)
 
 module _ (n i first answers : ℕ) (l : n ≤ 64) (h : answers < 2 ^ 64) where
-  pub pref-starts : i ≡ 0 → bit_and (word 64 (λ e. ltb e n)) (2 ^ 64 - 1 - answers) ≡ word n (starting pref i (bit first) (bit answers))
+  pub pref_starts : i ≡ 0 → bit_and (word 64 (λ e. ltb e n)) (2 ^ 64 - 1 - answers) ≡ word n (starting pref i (bit first) (bit answers))
   unfolding starting
-  pref-starts z =
+  pref_starts z =
       limited n (2 ^ 64 - 1 - answers) (λ j. eqb i 0 && not (bit answers j)) l
       (λ e m. bit_not 64 answers e h (omega arith) ∙ ap (λ (r : Bool). r && not (bit answers e)) (sym (eq-eqb i 0 z)))
 
-  pub pref-none : (i ≡ 0 → ⊥) → 0 ≡ word n (starting pref i (bit first) (bit answers))
+  pub pref_none : (i ≡ 0 → ⊥) → 0 ≡ word n (starting pref i (bit first) (bit answers))
   unfolding starting
-  pref-none z = no_starts n (λ j. eqb i 0 && not (bit answers j)) (λ e. ap (λ (r : Bool). r && not (bit answers e)) (ne_eqb i 0 z))
+  pref_none z = no_starts n (λ j. eqb i 0 && not (bit answers j)) (λ e. ap (λ (r : Bool). r && not (bit answers e)) (ne_eqb i 0 z))
 
-  pub init-starts : i ≡ 0
+  pub init_starts : i ≡ 0
       → bit_and (word 64 (λ e. ltb e n)) (bit_and first (word 64 (λ e. not (some_below (suc e) (bit answers))))) ≡ word n (starting init i (bit first) (bit answers))
   unfolding starting some_from
-  init-starts z =
+  init_starts z =
       limited n (bit_and first (word 64 (λ e. not (some_below (suc e) (bit answers))))) (λ j. eqb i 0 && (bit first j && not (some_in 0 j (bit answers)))) l
       (λ e m. bit_and_lem first (word 64 (λ e. not (some_below (suc e) (bit answers)))) e
       ∙ ap (λ (r : Bool). bit first e && r)
@@ -147,15 +147,15 @@ module _ (n i first answers : ℕ) (l : n ≤ 64) (h : answers < 2 ^ 64) where
       ∙ ap not (below_cong (suc e) (bit answers) (λ t. leb 0 t && bit answers t) (λ t a. ap (λ (r : Bool). r && bit answers t) (sym (leb-zero t)))))
       ∙ ap (λ (r : Bool). r && (bit first e && not (some_in 0 e (bit answers)))) (sym (eq-eqb i 0 z)))
 
-  pub init-none : (i ≡ 0 → ⊥) → 0 ≡ word n (starting init i (bit first) (bit answers))
+  pub init_none : (i ≡ 0 → ⊥) → 0 ≡ word n (starting init i (bit first) (bit answers))
   unfolding starting
-  init-none z =
+  init_none z =
       no_starts n (λ j. eqb i 0 && (bit first j && not (some_in 0 j (bit answers))))
       (λ e. ap (λ (r : Bool). r && (bit first e && not (some_in 0 e (bit answers)))) (ne_eqb i 0 z))
 
-  pub implies-starts : bit_and (row n always i) (bit_and first (2 ^ 64 - 1 - answers)) ≡ word n (starting implies i (bit first) (bit answers))
+  pub implies_starts : bit_and (row n always i) (bit_and first (2 ^ 64 - 1 - answers)) ≡ word n (starting implies i (bit first) (bit answers))
   unfolding row starting
-  implies-starts =
+  implies_starts =
       masked_row n (bit_and first (2 ^ 64 - 1 - answers)) (λ i j. bit first j && not (bit answers j)) i
       (λ e a b. bit_and_lem first (2 ^ 64 - 1 - answers) e ∙ ap (λ (r : Bool). bit first e && r) (bit_not 64 answers e h (omega arith)))
 

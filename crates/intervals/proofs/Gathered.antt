@@ -103,21 +103,21 @@ cut_row words root short ends b = bit_and (cut_to short (row_at words root b)) e
 
 -- what is gathered from row b
 module _ (words : List ℕ) (root names : ℕ) (short : Bool) (ν : Placement) where
-  addedRow : ℕ → ℕ
-  addedRow = cut_row words root short (2 ^ 64 - 1 - word 64 (λ e. ltb e (last_name (bit names) ν)))
+  added_row : ℕ → ℕ
+  added_row = cut_row words root short (2 ^ 64 - 1 - word 64 (λ e. ltb e (last_name (bit names) ν)))
 
-  added-bit : (b e : ℕ) → b ≤ first_name (bit names) ν → b < 64 → e < 64 → bit (addedRow b) e ≡ gathered words root names short ν b e
-  unfolding gathered addedRow
-  added-bit b e l h m =
+  added_bit : (b e : ℕ) → b ≤ first_name (bit names) ν → b < 64 → e < 64 → bit (added_row b) e ≡ gathered words root names short ν b e
+  unfolding gathered added_row
+  added_bit b e l h m =
       cut_bit 64 (cut_to short (row_at words root b)) (last_name (bit names) ν) e m
       ∙ and_comm (bit (cut_to short (row_at words root b)) e) (leb (last_name (bit names) ν) e)
       ∙ ap (λ (x : Bool). (x && leb (last_name (bit names) ν) e) && bit (cut_to short (row_at words root b)) e) (sym (le-leb b (first_name (bit names) ν) l))
       ∙ ap (λ (x : Bool). x && bit (cut_to short (row_at words root b)) e) (sym (names_inside (bit names) ν b e h))
 
   -- no interval from a later row holds the first name
-  none-later : (b e : ℕ) → first_name (bit names) ν < b → b < 64 → gathered words root names short ν b e ≡ false
+  none_later : (b e : ℕ) → first_name (bit names) ν < b → b < 64 → gathered words root names short ν b e ≡ false
   unfolding gathered
-  none-later b e l h =
+  none_later b e l h =
       ap (λ (x : Bool). x && bit (cut_to short (row_at words root b)) e)
       (names_inside (bit names) ν b e h ∙ ap (λ (x : Bool). x && leb (last_name (bit names) ν) e) (lt-leb b (first_name (bit names) ν) l))
 
@@ -154,38 +154,38 @@ added_turn before after f all b v w h a u e =
 module _ (before after words : List ℕ) (root names : ℕ) (short : Bool) (ν : Placement) (n ends all high : ℕ) (few : n ≤ 64)
     (is : ends ≡ 2 ^ 64 - 1 - word 64 (λ e. ltb e (last_name (bit names) ν))) (upto : high ≡ min (first_name (bit names) ν + 1) n)
     (cut : Added before after (cut_row words root short ends) all high) where
-  a : Added before after (addedRow words root names short ν) all (min (first_name (bit names) ν + 1) n)
-  unfolding addedRow
+  a : Added before after (added_row words root names short ν) all (min (first_name (bit names) ν + 1) n)
+  unfolding added_row
   a = subst (λ (z : ℕ). Added before after (cut_row words root short z) all (min (first_name (bit names) ν + 1) n)) is
       (subst (λ (z : ℕ). Added before after (cut_row words root short ends) all z) upto cut)
 
-  pub added-all : Adds n before after (gathered words root names short ν)
+  pub added_all : Adds n before after (gathered words root names short ν)
   unfolding test_of
-  added-all =
+  added_all =
       record {
         adds = λ b e l h. elim (test (leb b (first_name (bit names) ν))) [
           | inl q ↦
               let m = leb-true b (first_name (bit names) ν) q in
               ap (λ (x : ℕ). bit x e) (a.done b (omega arith))
-              ∙ bit_or_lem (get_or before b 0) (addedRow words root names short ν b) e
-              ∙ ap (λ (r : Bool). bit (get_or before b 0) e || r) (added-bit words root names short ν b e m (omega arith) (omega arith))
+              ∙ bit_or_lem (get_or before b 0) (added_row words root names short ν b) e
+              ∙ ap (λ (r : Bool). bit (get_or before b 0) e || r) (added_bit words root names short ν b e m (omega arith) (omega arith))
           | inr q ↦
               let m = leb-false b (first_name (bit names) ν) q in
               ap (λ (x : ℕ). bit x e) (a.rest b (omega arith))
               ∙ sym (or_false (bit (get_or before b 0) e))
-              ∙ ap (λ (r : Bool). bit (get_or before b 0) e || r) (sym (none-later words root names short ν b e (omega arith) (omega arith)))
+              ∙ ap (λ (r : Bool). bit (get_or before b 0) e || r) (sym (none_later words root names short ν b e (omega arith) (omega arith)))
         ];
       }
 
-  pub added-ends : Ends n (gathered words root names short ν) all
-  added-ends =
+  pub added_ends : Ends n (gathered words root names short ν) all
+  added_ends =
       record {
         ends = λ b e l h q. elim (test (leb b (first_name (bit names) ν))) [
           | inl p ↦
               let m = leb-true b (first_name (bit names) ν) p in
-              a.ends b e (omega arith) (added-bit words root names short ν b e m (omega arith) (omega arith) ∙ q)
+              a.ends b e (omega arith) (added_bit words root names short ν b e m (omega arith) (omega arith) ∙ q)
           | inr p ↦
               let m = leb-false b (first_name (bit names) ν) p in
-              absurd (false_not (gathered words root names short ν b e) (none-later words root names short ν b e (omega arith) (omega arith)) q)
+              absurd (false_not (gathered words root names short ν b e) (none_later words root names short ν b e (omega arith) (omega arith)) q)
         ];
       }

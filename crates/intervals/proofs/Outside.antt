@@ -86,10 +86,10 @@ module _ (d₁ d₂ d₃ : Part) (σ : Trace) (last : ℕ) (inσ : last < length
   Θ₁₃ = union d₁.names d₃.names
 
   -- the three tests of follows and triggers, for an answer that starts at s
-  unanswered-out : (i j s k : ℕ) → i ≤ j → j ≤ last → k ≤ last
+  unanswered_out : (i j s k : ℕ) → i ≤ j → j ≤ last → k ≤ last
       → unanswered d₁ d₂ d₃ σ i j s k ≡ some_placement Θ₁₃ 0 last unplaced (awaiting d₁ d₂ d₃ σ last i j s k)
   unfolding unanswered on_inside short_inside fresh shortest on
-  unanswered-out i j s k ij jl kl =
+  unanswered_out i j s k ij jl kl =
       join d₁ d₃.names σ fit 0 i j s k last (omega arith) ij jl (omega arith) kl inσ q
       ∙ placement_cong Θ₁₃ 0 last unplaced (together d₁ d₃.names σ i j s k q) (awaiting d₁ d₂ d₃ σ last i j s k)
       (λ ν a. ap (λ (r : Bool). on_inside d₁ σ ν i j && r)
@@ -132,10 +132,10 @@ breaks_out implies d₁ d₂ d₃ σ last inσ w i j k jl kl =
 breaks_out follows d₁ d₂ d₃ σ last inσ w i j k jl kl =
     let Θ = union d₁.names d₃.names in
     and_under (leb i j) (leb j k) (unanswered d₁ d₂ d₃ σ i j j k) (some_placement Θ 0 last unplaced (awaiting d₁ d₂ d₃ σ last i j j k))
-    (λ p q. unanswered-out d₁ d₂ d₃ σ last inσ (and_left (fits d₁) (fits d₂ && fits d₃) w) i j j k (leb-true i j p) jl kl)
+    (λ p q. unanswered_out d₁ d₂ d₃ σ last inσ (and_left (fits d₁) (fits d₂ && fits d₃) w) i j j k (leb-true i j p) jl kl)
     ∙ and_placement (leb i j && leb j k) Θ 0 last unplaced (awaiting d₁ d₂ d₃ σ last i j j k)
 breaks_out triggers d₁ d₂ d₃ σ last inσ w i j k jl kl =
     let Θ = union d₁.names d₃.names in
     and_under (leb i j) (leb i k) (unanswered d₁ d₂ d₃ σ i j i k) (some_placement Θ 0 last unplaced (awaiting d₁ d₂ d₃ σ last i j i k))
-    (λ p q. unanswered-out d₁ d₂ d₃ σ last inσ (and_left (fits d₁) (fits d₂ && fits d₃) w) i j i k (leb-true i j p) jl kl)
+    (λ p q. unanswered_out d₁ d₂ d₃ σ last inσ (and_left (fits d₁) (fits d₂ && fits d₃) w) i j i k (leb-true i j p) jl kl)
     ∙ and_placement (leb i j && leb i k) Θ 0 last unplaced (awaiting d₁ d₂ d₃ σ last i j i k)

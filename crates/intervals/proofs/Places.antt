@@ -179,9 +179,9 @@ same_place clause i j k i' j' k' p q r = λ t. record { clause = clause; i = p t
 
 -- what the least place of a clause says of it
 module _ (c : Clause) (σ : Trace) (short : length σ ≤ 64) (r : ℕ) (l : IsLeast places (numbered (length σ) (breaks c σ)) r) where
-  pub fails-least : fails c σ ≡ ltb r places
+  pub fails_least : fails c σ ≡ ltb r places
   unfolding fails
-  fails-least =
+  fails_least =
       same (fails c σ) (ltb r places)
       (λ h. let w = place_first 0 (length σ) (breaks c σ) h in
       let e = least_unique l (first_is_least (length σ) (breaks c σ) _ _ _ short w) in
@@ -191,11 +191,11 @@ module _ (c : Clause) (σ : Trace) (short : length σ ≤ 64) (r : ℕ) (l : IsL
       (below_intro (length σ) (λ j. some_below (length σ) (λ k. breaks c σ (r / 4096) j k)) (r / 64 % 64) v.j_below
       (below_intro (length σ) (λ k. breaks c σ (r / 4096) (r / 64 % 64) k) (r % 64) v.k_below v.ok)))
 
-  pub place-least : (clause : ℕ) → r < places
+  pub place_least : (clause : ℕ) → r < places
       → first_place clause (length σ) (breaks c σ) ≡ record { clause = clause; i = r / 4096; j = r / 64 % 64; k = r % 64 }
   unfolding first_place fails
-  place-least clause h =
-      let w = place_first clause (length σ) (breaks c σ) (fails-least ∙ lt-ltb r places h) in
+  place_least clause h =
+      let w = place_first clause (length σ) (breaks c σ) (fails_least ∙ lt-ltb r places h) in
       let e = least_unique l (first_is_least (length σ) (breaks c σ) _ _ _ short w) in
       let d = decoded place.i place.j place.k (omega (arith, w.j_cycle)) (omega (arith, w.k_cycle)) in
       same_place clause _ _ _ _ _ _ (sym d.0 ∙ ap (λ (x : ℕ). x / 4096) (sym e)) (sym d.1 ∙ ap (λ (x : ℕ). x / 64 % 64) (sym e))

@@ -21,80 +21,80 @@ use Rattle.intervals.proofs.Found.{missed_is}
 use Rattle.intervals.proofs.Places.{first_is_least, least_stay, least_below, numbered_false}
 
 module _ (κ : ClauseType) (first third answers : List ℕ) (n : ℕ) where
-  abbrev pub unansweredAt : ℕ → ℕ → ℕ → Bool
-  unansweredAt i j k = missed κ (test_of first) (test_of third) (test_of answers) i j k
+  abbrev pub unanswered_at : ℕ → ℕ → ℕ → Bool
+  unanswered_at i j k = missed κ (test_of first) (test_of third) (test_of answers) i j k
 
   -- nothing is found in rows before i; nor from i at ends before j; nor from i to j at cycles before k
   abbrev pub RowsPassed : ℕ → Type 0
-  RowsPassed i = (i' j k : ℕ) → i' < i → j < n → k < n → unansweredAt i' j k ≡ false
+  RowsPassed i = (i' j k : ℕ) → i' < i → j < n → k < n → unanswered_at i' j k ≡ false
 
   abbrev pub EndsPassed : ℕ → ℕ → Type 0
-  EndsPassed i j = (j' k : ℕ) → j' < j → j' < n → k < n → unansweredAt i j' k ≡ false
+  EndsPassed i j = (j' k : ℕ) → j' < j → j' < n → k < n → unanswered_at i j' k ≡ false
 
   abbrev pub CyclesPassed : ℕ → ℕ → ℕ → Type 0
-  CyclesPassed i j k = (k' : ℕ) → k' < k → k' < n → unansweredAt i j k' ≡ false
+  CyclesPassed i j k = (k' : ℕ) → k' < k → k' < n → unanswered_at i j k' ≡ false
 
   module _ (i from : ℕ) (is : from ≡ word n (starting κ i (bit (get_or first i 0)) (bit (get_or answers i 0)))) where
-    start-bit : (j : ℕ) → j < n → bit from j ≡ starting κ i (test_of first i) (test_of answers i) j
+    start_bit : (j : ℕ) → j < n → bit from j ≡ starting κ i (test_of first i) (test_of answers i) j
     unfolding test_of
-    start-bit j h = ap (λ (x : ℕ). bit x j) is ∙ word_bit n (starting κ i (bit (get_or first i 0)) (bit (get_or answers i 0))) j h
+    start_bit j h = ap (λ (x : ℕ). bit x j) is ∙ word_bit n (starting κ i (bit (get_or first i 0)) (bit (get_or answers i 0))) j h
 
-    no_start : (j k : ℕ) → j < n → bit from j ≡ false → unansweredAt i j k ≡ false
+    no_start : (j k : ℕ) → j < n → bit from j ≡ false → unanswered_at i j k ≡ false
     no_start j k h e =
         missed_is κ (test_of first) (test_of third) (test_of answers) i j k
-        ∙ and_false_left (starting κ i (test_of first i) (test_of answers i) j) _ (sym (start-bit j h) ∙ e)
+        ∙ and_false_left (starting κ i (test_of first i) (test_of answers i) j) _ (sym (start_bit j h) ∙ e)
 
-    pub first-end : (r : ℕ) → Next from 0 r → EndsPassed i r
-    first-end r w j' k l h m = no_start j' k h (w.between j' (omega arith) l)
+    pub first_end : (r : ℕ) → Next from 0 r → EndsPassed i r
+    first_end r w j' k l h m = no_start j' k h (w.between j' (omega arith) l)
 
-    pub next-end : (j r : ℕ) → Next from (j + 1) r → EndsPassed i j → CyclesPassed i j n → EndsPassed i r
-    next-end j r w before here j' k l h m =
+    pub next_end : (j r : ℕ) → Next from (j + 1) r → EndsPassed i j → CyclesPassed i j n → EndsPassed i r
+    next_end j r w before here j' k l h m =
         elim (test (ltb j' j)) [
           | inl q ↦ before j' k (ltb-true j' j q) h m
           | inr q ↦
               let o : j ≤ j' = ltb-false j' j q in
               elim (eq-or-lt_of_le o) [
-                | inl e ↦ subst (λ (x : ℕ). unansweredAt i x k ≡ false) e (here k m m)
+                | inl e ↦ subst (λ (x : ℕ). unanswered_at i x k ≡ false) e (here k m m)
                 | inr p ↦ no_start j' k h (w.between j' (omega arith) l)
               ]
         ]
 
     module _ (j to : ℕ) (ends : to ≡ word n (ending κ i j (test_of third))) where
-      end-bit : (k : ℕ) → k < n → bit to k ≡ ending κ i j (test_of third) k
-      end-bit k h = ap (λ (x : ℕ). bit x k) ends ∙ word_bit n (ending κ i j (test_of third)) k h
+      end_bit : (k : ℕ) → k < n → bit to k ≡ ending κ i j (test_of third) k
+      end_bit k h = ap (λ (x : ℕ). bit x k) ends ∙ word_bit n (ending κ i j (test_of third)) k h
 
-      no_end : (k : ℕ) → k < n → bit to k ≡ false → unansweredAt i j k ≡ false
+      no_end : (k : ℕ) → k < n → bit to k ≡ false → unanswered_at i j k ≡ false
       no_end k h e =
           missed_is κ (test_of first) (test_of third) (test_of answers) i j k
           ∙ and_false_right (starting κ i (test_of first i) (test_of answers i) j) _
-          (and_false_left (ending κ i j (test_of third) k) (unreplied κ i j (test_of answers) k) (sym (end-bit k h) ∙ e))
+          (and_false_left (ending κ i j (test_of third) k) (unreplied κ i j (test_of answers) k) (sym (end_bit k h) ∙ e))
 
-      replied : (k : ℕ) → unreplied κ i j (test_of answers) k ≡ false → unansweredAt i j k ≡ false
+      replied : (k : ℕ) → unreplied κ i j (test_of answers) k ≡ false → unanswered_at i j k ≡ false
       replied k e =
           missed_is κ (test_of first) (test_of third) (test_of answers) i j k
           ∙ and_false_right (starting κ i (test_of first i) (test_of answers i) j) _
           (and_false_right (ending κ i j (test_of third) k) (unreplied κ i j (test_of answers) k) e)
 
-      pub first-cycle : (r : ℕ) → Next to 0 r → CyclesPassed i j r
-      first-cycle r w k' l h = no_end k' h (w.between k' (omega arith) l)
+      pub first_cycle : (r : ℕ) → Next to 0 r → CyclesPassed i j r
+      first_cycle r w k' l h = no_end k' h (w.between k' (omega arith) l)
 
-      pub next-cycle : (k r : ℕ) → Next to (k + 1) r → unreplied κ i j (test_of answers) k ≡ false → CyclesPassed i j k → CyclesPassed i j r
-      next-cycle k r w e before k' l h =
+      pub next_cycle : (k r : ℕ) → Next to (k + 1) r → unreplied κ i j (test_of answers) k ≡ false → CyclesPassed i j k → CyclesPassed i j r
+      next_cycle k r w e before k' l h =
           elim (test (ltb k' k)) [
             | inl q ↦ before k' (ltb-true k' k q) h
             | inr q ↦
                 let o : k ≤ k' = ltb-false k' k q in
                 elim (eq-or-lt_of_le o) [
-                  | inl s ↦ subst (λ (x : ℕ). unansweredAt i j x ≡ false) s (replied k e)
+                  | inl s ↦ subst (λ (x : ℕ). unanswered_at i j x ≡ false) s (replied k e)
                   | inr p ↦ no_end k' h (w.between k' (omega arith) l)
                 ]
           ]
 
       -- the first place that is found
-      pub found-least : (k best : ℕ) → best ≤ places → n ≤ 64 → i < n → j < n → k < n → bit from j ≡ true → bit to k ≡ true → unreplied κ i j (test_of answers) k ≡ true
-          → RowsPassed i → EndsPassed i j → CyclesPassed i j k → IsLeast best (numbered n unansweredAt) (min (number i j k) best)
-      found-least k best most s hi hj hk from-j to-k still rows ends cycles =
-          least_below best most (first_is_least n unansweredAt i j k s
+      pub found_least : (k best : ℕ) → best ≤ places → n ≤ 64 → i < n → j < n → k < n → bit from j ≡ true → bit to k ≡ true → unreplied κ i j (test_of answers) k ≡ true
+          → RowsPassed i → EndsPassed i j → CyclesPassed i j k → IsLeast best (numbered n unanswered_at) (min (number i j k) best)
+      found_least k best most s hi hj hk from-j to-k still rows ends cycles =
+          least_below best most (first_is_least n unanswered_at i j k s
           (record {
             i_cycle = hi;
             j_cycle = hj;
@@ -102,7 +102,7 @@ module _ (κ : ClauseType) (first third answers : List ℕ) (n : ℕ) where
             ok =
                 missed_is κ (test_of first) (test_of third) (test_of answers) i j k
                 ∙ and_intro (starting κ i (test_of first i) (test_of answers i) j) _
-                (sym (start-bit j hj) ∙ from-j) (and_intro (ending κ i j (test_of third) k) _ (sym (end-bit k hk) ∙ to-k) still);
+                (sym (start_bit j hj) ∙ from-j) (and_intro (ending κ i j (test_of third) k) _ (sym (end_bit k hk) ∙ to-k) still);
             before = λ i' j' k' hj' hk'. elim [
               | inl l ↦ rows i' j' k' l hj' hk'
               | inr r ↦ rw r.0 (elim r.1 [ inl l ↦ ends j' k' l hj' hk' | inr e ↦ rw e.0 (cycles k' e.1 hk') ])
@@ -115,6 +115,6 @@ module _ (κ : ClauseType) (first third answers : List ℕ) (n : ℕ) where
       elim (eq-or-lt_of_le o) [ inl q ↦ rw q (ends j k hj hj hk) | inr p ↦ rows i' j k p hj hk ]
 
   -- nothing in the rows of places before the best
-  pub none_found : (best : ℕ) → RowsPassed (min n ((best + 4095) / 4096)) → IsLeast best (numbered n unansweredAt) best
+  pub none_found : (best : ℕ) → RowsPassed (min n ((best + 4095) / 4096)) → IsLeast best (numbered n unanswered_at) best
   none_found best rows =
-      least_stay (λ x l. numbered_false n unansweredAt x (λ hi hj hk. rows (x / 4096) (x / 64 % 64) (x % 64) (omega arith) hj hk))
+      least_stay (λ x l. numbered_false n unanswered_at x (λ hi hj hk. rows (x / 4096) (x / 64 % 64) (x % 64) (omega arith) hj hk))

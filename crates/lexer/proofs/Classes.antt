@@ -15,7 +15,7 @@ use Rattle.grammar.specs.Class.{letter_class, digit_class, blank_class, bracket_
 use Rattle.grammar.proofs.Sorted.{sorting, given}
 use Rattle.lexer.specs.declared.spellings.Spelled.{Spelled}
 use Rattle.lexer.specs.Rows.{is_of, starts_as, those, word_of, token_of, row_at, rows_from, Found}
-use Rattle.lexer.proofs.Digits.{digit-high}
+use Rattle.lexer.proofs.Digits.{digit_high}
 use Rattle.lexer.proofs.Rows.{found_later}
 
 -- ---- what a class says of its byte
@@ -37,36 +37,36 @@ either_way true c x same other = sym (eq-eqb c x (same refl))
 either_way false c x same other = sym (other refl)
 
 module _ (b : ℕ) where
-  digit-given : is_digit b ≡ true → class_of b ≡ digit_class
+  digit_given : is_digit b ≡ true → class_of b ≡ digit_class
   unfolding class_of is_letter
-  digit-given h = let high = digit-high b h in rw (h, lt-leb 97 b (omega arith))
+  digit_given h = let high = digit_high b h in rw (h, lt-leb 97 b (omega arith))
 
-  blank-given : is_blank b ≡ true → class_of b ≡ blank_class
+  blank_given : is_blank b ≡ true → class_of b ≡ blank_class
   unfolding sorting
-  blank-given h =
+  blank_given h =
       elim (test (eqb b 9)) [
         | inl e ↦ rw (eqb-true b 9 e)
         | inr e ↦ rw (eqb-true b 32 (rw e at h))
       ]
 
-  line-end-given : is_line_end b ≡ true → class_of b ≡ line_end_class
+  line_end_given : is_line_end b ≡ true → class_of b ≡ line_end_class
   unfolding sorting
-  line-end-given h = rw (eqb-true b 10 h)
+  line_end_given h = rw (eqb-true b 10 h)
 
-  not-given : (is_digit b ≡ false → eqb (class_of b) digit_class ≡ false)
+  not_given : (is_digit b ≡ false → eqb (class_of b) digit_class ≡ false)
       × (is_blank b ≡ false → eqb (class_of b) blank_class ≡ false)
       × (is_line_end b ≡ false → eqb (class_of b) line_end_class ≡ false)
   unfolding class_of
-  not-given = untested (is_letter b) (is_digit b) (is_blank b) (is_bracket b) (is_joiner b) (is_line_end b)
+  not_given = untested (is_letter b) (is_digit b) (is_blank b) (is_bracket b) (is_joiner b) (is_line_end b)
 
-  pub digit-class : is_digit b ≡ eqb (class_of b) digit_class
-  digit-class = either_way (is_digit b) (class_of b) digit_class digit-given not-given.0
+  pub digit_class_lem : is_digit b ≡ eqb (class_of b) digit_class
+  digit_class_lem = either_way (is_digit b) (class_of b) digit_class digit_given not_given.0
 
-  pub blank-class : is_blank b ≡ eqb (class_of b) blank_class
-  blank-class = either_way (is_blank b) (class_of b) blank_class blank-given not-given.1
+  pub blank_class_lem : is_blank b ≡ eqb (class_of b) blank_class
+  blank_class_lem = either_way (is_blank b) (class_of b) blank_class blank_given not_given.1
 
-  pub line-end-class : is_line_end b ≡ eqb (class_of b) line_end_class
-  line-end-class = either_way (is_line_end b) (class_of b) line_end_class line-end-given not-given.2
+  pub line_end_class_lem : is_line_end b ≡ eqb (class_of b) line_end_class
+  line_end_class_lem = either_way (is_line_end b) (class_of b) line_end_class line_end_given not_given.2
 
 -- the class that was asked for a byte, and the test that it stands for
 module _ (q : ℕ → Bool) (c : ℕ) (says : (b : ℕ) → q b ≡ eqb (class_of b) c) (r b : ℕ) (e : r ≡ class_of b) where
@@ -78,12 +78,12 @@ module _ (q : ℕ → Bool) (c : ℕ) (says : (b : ℕ) → q b ≡ eqb (class_o
 
 -- a byte that is no bracket opens and closes none
 module _ (b : ℕ) (other : class_of b ≡ bracket_class → ⊥) where
-  not-this : (c : ℕ) → class_of c ≡ bracket_class → eqb b c ≡ false
-  not-this c e = ne_eqb b c (λ s. other (ap class_of s ∙ e))
+  not_this : (c : ℕ) → class_of c ≡ bracket_class → eqb b c ≡ false
+  not_this c e = ne_eqb b c (λ s. other (ap class_of s ∙ e))
 
   pub unbracketed : (depth : ℕ) → open_after depth b ≡ depth
   unfolding sorting open_after
-  unbracketed depth = rw (not-this 40 refl, not-this 41 refl)
+  unbracketed depth = rw (not_this 40 refl, not_this 41 refl)
 
 -- ---- the spellings that begin with a byte of a class
 -- what they, and the rows that have them, are computed by
@@ -98,10 +98,10 @@ module _ (p : ℕ → Bool) (b : ℕ) (text : List ℕ) (h : p b ≡ true) where
   passed_over [] e = absurd (true≢false e)
   passed_over (x ∷ word) e = rw (ne_eqb x b (λ s. true≢false (sym h ∙ sym (ap p s) ∙ e)))
 
-  those-found : (xs : List Spelling) → spelling_of xs (b ∷ text) ≡ spelling_of (those p xs) (b ∷ text)
+  those_found : (xs : List Spelling) → spelling_of xs (b ∷ text) ≡ spelling_of (those p xs) (b ∷ text)
   unfolding those spelling_of
-  those-found [] = refl
-  those-found (x ∷ more) = go (starts_as p x.bytes) refl (those-found more)
+  those_found [] = refl
+  those_found (x ∷ more) = go (starts_as p x.bytes) refl (those_found more)
     where
       go : (t : Bool) → starts_as p x.bytes ≡ t → spelling_of more (b ∷ text) ≡ spelling_of (those p more) (b ∷ text)
           → cond (begins x.bytes (b ∷ text)) x (spelling_of more (b ∷ text)) ≡ spelling_of (cond t (x ∷ those p more) (those p more)) (b ∷ text)
@@ -112,7 +112,7 @@ module _ (p : ℕ → Bool) (b : ℕ) (text : List ℕ) (h : p b ≡ true) where
 found_among : (p : ℕ → Bool) (text : List ℕ) (r : Spelled) → 0 < length text → p (get_or text 0 0) ≡ true → Found (those p spellings) text r
     → Found spellings text r
 found_among p [] r long h found = absurd (omega arith)
-found_among p (b ∷ text) r long h found = found_later spellings (those p spellings) (b ∷ text) r (those-found p b text h spellings) found
+found_among p (b ∷ text) r long h found = found_later spellings (those p spellings) (b ∷ text) r (those_found p b text h spellings) found
 
 only_line_end : those (is_of line_end_class) spellings ≡ spelt (10 ∷ []) (plain line_end) ∷ []
 unfolding choosing
@@ -131,10 +131,10 @@ module _ (text : List ℕ) (class : ℕ) (long : 0 < length text) (e : class ≡
   found_of c r h = found_among (is_of c) text r long (eq-eqb (class_of (get_or text 0 0)) c (sym e ∙ h))
 
   -- the line end
-  pub line-end-found : class ≡ line_end_class → Found spellings text (record { number = 0; width = 1 })
+  pub line_end_found : class ≡ line_end_class → Found spellings text (record { number = 0; width = 1 })
   unfolding is_line_end spelling_of begins token_of
-  line-end-found h =
-      let ends = told is_line_end line_end_class line-end-class class (get_or text 0 0) e h in
+  line_end_found h =
+      let ends = told is_line_end line_end_class line_end_class_lem class (get_or text 0 0) e h in
       found_of line_end_class (record { number = 0; width = 1 }) h (rw only_line_end (alone text long (eqb-true (get_or text 0 0) 10 ends)))
     where
       alone : (text : List ℕ) → 0 < length text → get_or text 0 0 ≡ 10 → Found (spelt (10 ∷ []) (plain line_end) ∷ []) text (record { number = 0; width = 1 })

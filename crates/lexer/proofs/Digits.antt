@@ -19,9 +19,9 @@ module _ (b : ℕ) (h : is_digit b ≡ true) where
   unfolding is_digit
   digit_low = leb-true 48 b (and_left (leb 48 b) (leb b 57) h)
 
-  pub digit-high : b ≤ 57
+  pub digit_high : b ≤ 57
   unfolding is_digit
-  digit-high = leb-true b 57 (and_right (leb 48 b) (leb b 57) h)
+  digit_high = leb-true b 57 (and_right (leb 48 b) (leb b 57) h)
 
 -- a digit is no blank
 pub digit_no_blank : (b : ℕ) → is_digit b ≡ true → is_blank b ≡ false
@@ -79,19 +79,19 @@ module _ (text : List ℕ) (i : ℕ) where
   number_more high h e = rw (drop-cons text i 0 h, e, add-one)
 
   -- no digit
-  pub digits-none : i < length text → is_digit (get_or text i 0) ≡ false → digits (drop i text) ≡ 0
+  pub digits_none : i < length text → is_digit (get_or text i 0) ≡ false → digits (drop i text) ≡ 0
   unfolding digits
-  digits-none h e = rw (drop-cons text i 0 h, e)
+  digits_none h e = rw (drop-cons text i 0 h, e)
 
-  pub number-done : (high : ℕ) → i < length text → is_digit (get_or text i 0) ≡ false → number_from high (drop i text) ≡ high
+  pub number_done : (high : ℕ) → i < length text → is_digit (get_or text i 0) ≡ false → number_from high (drop i text) ≡ high
   unfolding number_from
-  number-done high h e = rw (drop-cons text i 0 h, e)
+  number_done high h e = rw (drop-cons text i 0 h, e)
 
   -- the end of the text
-  pub digits-end : length text ≤ i → digits (drop i text) ≡ 0
+  pub digits_end : length text ≤ i → digits (drop i text) ≡ 0
   unfolding digits
-  digits-end h = rw (drop_of_length-le text h)
+  digits_end h = rw (drop_of_length-le text h)
 
-  pub number-end : (high : ℕ) → length text ≤ i → number_from high (drop i text) ≡ high
+  pub number_end : (high : ℕ) → length text ≤ i → number_from high (drop i text) ≡ high
   unfolding number_from
-  number-end high h = rw (drop_of_length-le text h)
+  number_end high h = rw (drop_of_length-le text h)

@@ -16,7 +16,7 @@ use Rattle.lexer.specs.declared.numbers.Numeral.{Numeral}
 use Rattle.lexer.specs.declared.spellings.Spelled.{Spelled}
 use Rattle.lexer.specs.Rows.{token_of, Found}
 use Rattle.lexer.proofs.Digits.{digits_more}
-use Rattle.lexer.proofs.Tokens.{all_spelt, spelling_long, spelling_fits, number_at, spelling-at}
+use Rattle.lexer.proofs.Tokens.{all_spelt, spelling_long, spelling_fits, number_at, spelling_at}
 
 -- a token of the grammar at this place, up to the place `after`
 pub token_read : (text : List ℕ) (at after : ℕ) (t : Lexeme) (g : Token) → Means t g → tokens (drop at text) ≡ g ∷ tokens (drop after text)
@@ -60,19 +60,19 @@ module _ (text : List ℕ) (at : ℕ) (r : Spelled) (h : at < length text) (foun
       let fits = rw (← drop-cons text at 0 h) at (spelling_fits spellings (get_or text at 0) (drop (suc at) text)) in
       omega (arith, found.width, fits, length-drop (suc at) text)
 
-  pub spelling-read : (t : Lexeme) → is_blank (get_or text at 0) ≡ false → is_digit (get_or text at 0) ≡ false → Means t (token_of r.number)
+  pub spelling_read : (t : Lexeme) → is_blank (get_or text at 0) ≡ false → is_digit (get_or text at 0) ≡ false → Means t (token_of r.number)
       → Next text at (record { token = t; at = at + r.width })
   unfolding all_spelt
-  spelling-read t e d means =
+  spelling_read t e d means =
       token_read text at (at + r.width) t (token_of r.number) means
-      (spelling-at text at h e d ∙ rw (found.token, found.width))
+      (spelling_at text at h e d ∙ rw (found.token, found.width))
       (omega (arith, found.width, spelling_long spellings refl (drop at text)))
       width_fits
 
 -- blanks from `at` to `start`
 module _ (text : List ℕ) (at start : ℕ) (skipped : Skipped text at start) where
-  pub after-blanks : (r : Lexed) → Next text start r → Next text at r
-  after-blanks r next =
+  pub after_blanks : (r : Lexed) → Next text start r → Next text at r
+  after_blanks r next =
       record {
         read = skipped.same ∙ next.read;
         within = next.within;
@@ -94,11 +94,11 @@ module _ (text : List ℕ) (at start : ℕ) (skipped : Skipped text at start) wh
 
 -- what a caller learns of the token that it was told
 module _ (text : List ℕ) (at : ℕ) (r : Lexed) (next : Next text at r) where
-  pub token-told : (t : Lexeme) → r.token ≡ t → is_end t ≡ false
+  pub token_told : (t : Lexeme) → r.token ≡ t → is_end t ≡ false
       → (tokens (drop at text) ≡ meant t ∷ tokens (drop r.at text)) × (at < r.at) × Bounded t
   unfolding leads
-  token-told t e goes = (next.read ∙ rw (e, goes), next.onward (rw e goes), rw e at next.bounded)
+  token_told t e goes = (next.read ∙ rw (e, goes), next.onward (rw e goes), rw e at next.bounded)
 
-  pub end-told : is_end r.token ≡ true → (tokens (drop at text) ≡ []) × (r.at ≡ length text)
+  pub end_told : is_end r.token ≡ true → (tokens (drop at text) ≡ []) × (r.at ≡ length text)
   unfolding leads
-  end-told e = (next.read ∙ rw e, next.finished e)
+  end_told e = (next.read ∙ rw e, next.finished e)

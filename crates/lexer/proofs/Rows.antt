@@ -19,9 +19,9 @@ module _ (text : List ℕ) (k b : ℕ) where
   unfolding first_is
   stands_here h = rw (drop-cons text k 0 h)
 
-  pub stands-past : length text ≤ k → first_is b (drop k text) ≡ false
+  pub stands_past : length text ≤ k → first_is b (drop k text) ≡ false
   unfolding first_is
-  stands-past h = rw (drop_of_length-le text h)
+  stands_past h = rw (drop_of_length-le text h)
 
 -- a row's word, byte by byte
 match_none : (k : ℕ) (text : List ℕ) → word_match k [] text ≡ k
@@ -45,25 +45,25 @@ match_goes k b row (x ∷ text) e = rw (ne_eqb b 46 e) (go (eqb b x))
     go false = refl
 
 module _ (row text : List ℕ) (k : ℕ) where
-  pub match-end : length row ≤ k → word_match k (drop k row) (drop k text) ≡ k
-  match-end h = rw (drop_of_length-le row h) (match_none k (drop k text))
+  pub match_end : length row ≤ k → word_match k (drop k row) (drop k text) ≡ k
+  match_end h = rw (drop_of_length-le row h) (match_none k (drop k text))
 
-  pub match-filled : k < length row → get_or row k 0 ≡ 46 → word_match k (drop k row) (drop k text) ≡ k
-  match-filled h e = rw (drop-cons row k 0 h) (match_ends k (get_or row k 0) (drop (suc k) row) (drop k text) e)
+  pub match_filled : k < length row → get_or row k 0 ≡ 46 → word_match k (drop k row) (drop k text) ≡ k
+  match_filled h e = rw (drop-cons row k 0 h) (match_ends k (get_or row k 0) (drop (suc k) row) (drop k text) e)
 
   module _ (h : k < length row) (e : get_or row k 0 ≡ 46 → ⊥) where
-    match-step : word_match k (drop k row) (drop k text)
+    match_step : word_match k (drop k row) (drop k text)
         ≡ cond (first_is (get_or row k 0) (drop k text)) (word_match (k + 1) (drop (k + 1) row) (drop (k + 1) text)) 9
-    match-step =
+    match_step =
         rw (← drop-drop 1 k text, add-one, drop-cons row k 0 h)
         (rw add-one at (match_goes k (get_or row k 0) (drop (suc k) row) (drop k text) e))
 
-    pub match-fails : first_is (get_or row k 0) (drop k text) ≡ false → word_match k (drop k row) (drop k text) ≡ 9
-    match-fails other = match-step ∙ rw other
+    pub match_fails : first_is (get_or row k 0) (drop k text) ≡ false → word_match k (drop k row) (drop k text) ≡ 9
+    match_fails other = match_step ∙ rw other
 
-    pub match-goes-on : first_is (get_or row k 0) (drop k text) ≡ true
+    pub match_goes_on : first_is (get_or row k 0) (drop k text) ≡ true
         → word_match k (drop k row) (drop k text) ≡ word_match (k + 1) (drop (k + 1) row) (drop (k + 1) text)
-    match-goes-on same = match-step ∙ rw same
+    match_goes_on same = match_step ∙ rw same
 
 -- a word is no longer than its row
 word_short : (row : List ℕ) → length (word_of row) ≤ length row
@@ -100,17 +100,17 @@ module _ (rows text : List ℕ) (n i : ℕ) (h : i < n) where
   unfolding rows_from spelling_of
   rows_step = let e : n - i ≡ suc (n - (i + 1)) = omega arith in rw (e, add-one)
 
-  pub row-found : (width : ℕ) → width ≡ word_match 0 (take 8 (drop (9 * i) rows)) text → width ≤ 8
+  pub row_found : (width : ℕ) → width ≡ word_match 0 (take 8 (drop (9 * i) rows)) text → width ≤ 8
       → Found (rows_from rows (n - i) i) text (record { number = get_or rows (9 * i + 8) 0; width = width })
   unfolding row_at
-  row-found width e short =
+  row_found width e short =
       let found = match_found (take 8 (drop (9 * i) rows)) text width e short in
       record { token = rw (rows_step, found.0); width = rw (rows_step, found.0) found.1 }
 
-  pub row-passed : (width : ℕ) → width ≡ word_match 0 (take 8 (drop (9 * i) rows)) text → 8 < width
+  pub row_passed : (width : ℕ) → width ≡ word_match 0 (take 8 (drop (9 * i) rows)) text → 8 < width
       → spelling_of (rows_from rows (n - i) i) text ≡ spelling_of (rows_from rows (n - (i + 1)) (i + 1)) text
   unfolding row_at
-  row-passed width e long =
+  row_passed width e long =
       let short : length (take 8 (drop (9 * i) rows)) ≤ 8 = rw length-take (omega arith) in
       rw (rows_step, match_passed (take 8 (drop (9 * i) rows)) text width e long short)
 

@@ -78,18 +78,18 @@ module _ (text : List ℕ) (at : ℕ) (h : at < length text) where
   here : drop at text ≡ get_or text at 0 ∷ drop (suc at) text
   here = drop-cons text at 0 h
 
-  pub blank-at : is_blank (get_or text at 0) ≡ true → tokens (drop at text) ≡ tokens (drop (at + 1) text)
-  blank-at e = ap tokens here ∙ blank (get_or text at 0) (drop (suc at) text) e ∙ rw add-one refl
+  pub blank_at : is_blank (get_or text at 0) ≡ true → tokens (drop at text) ≡ tokens (drop (at + 1) text)
+  blank_at e = ap tokens here ∙ blank (get_or text at 0) (drop (suc at) text) e ∙ rw add-one refl
 
   pub number_at : is_digit (get_or text at 0) ≡ true
       → tokens (drop at text) ≡ numbered (number_from 0 (drop at text)) ∷ tokens (drop (at + digits (drop at text)) text)
   number_at e =
       rw (← drop-drop (digits (drop at text)) at text) (rw here (number (get_or text at 0) (drop (suc at) text) e))
 
-  pub spelling-at : is_blank (get_or text at 0) ≡ false → is_digit (get_or text at 0) ≡ false
+  pub spelling_at : is_blank (get_or text at 0) ≡ false → is_digit (get_or text at 0) ≡ false
       → tokens (drop at text)
       ≡ (spelling_of spellings (drop at text)).token ∷ tokens (drop (at + length (spelling_of spellings (drop at text)).bytes) text)
   unfolding all_spelt
-  spelling-at e d =
+  spelling_at e d =
       rw (← drop-drop (length (spelling_of spellings (drop at text)).bytes) at text)
       (rw here (spelling (get_or text at 0) (drop (suc at) text) (spelling_long spellings refl (get_or text at 0 ∷ drop (suc at) text)) e d))

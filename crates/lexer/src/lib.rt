@@ -1,4 +1,6 @@
 // The words, numbers and signs of a typed text, one after the other, and how deep its round brackets go.
+#![tactic(auto)]
+
 pub mod brackets;
 pub mod lookup;
 pub mod numbers;

@@ -10,7 +10,7 @@ use lib.ListN.{length, get_or, set}
 use lib.Seq.{get_or-set_same, get_or-set_other, ext_get_or}
 use Rattle.semantics.proofs.Tests.{test}
 use Rattle.stored.specs.Bytes.{in_order}
-use Rattle.stored.proofs.Rules.{length-inOrder, getD-inOrder}
+use Rattle.stored.proofs.Rules.{length_in_order, get_or_in_order}
 
 pub copied_more : (f : ℕ → ℕ) (l : List ℕ) (b v : ℕ) → b < length l → v ≡ f b → ((k : ℕ) → k < b → get_or l k 0 ≡ f k) → (k : ℕ) → k < b + 1 → get_or (set l b v) k 0 ≡ f k
 copied_more f l b v h e before k m =
@@ -25,5 +25,5 @@ copied_more f l b v h e before k m =
 
 pub copied_all : (f : ℕ → ℕ) (n : ℕ) (l : List ℕ) (b : ℕ) → n ≤ b → length l ≡ n → ((k : ℕ) → k < b → get_or l k 0 ≡ f k) → l ≡ in_order n f
 copied_all f n l b h e all =
-    ext_get_or 0 l (in_order n f) (e ∙ sym (length-inOrder n f))
-    (λ k m. let less : k < n = omega arith in all k (omega arith) ∙ sym (getD-inOrder n f k 0 less))
+    ext_get_or 0 l (in_order n f) (e ∙ sym (length_in_order n f))
+    (λ k m. let less : k < n = omega arith in all k (omega arith) ∙ sym (get_or_in_order n f k 0 less))

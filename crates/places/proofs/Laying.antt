@@ -20,7 +20,7 @@ use Rattle.stored.specs.Tree.{formula_at}
 use Rattle.stored.specs.Clause.{part_of}
 use Rattle.tables.specs.Table.{standing, Inside, row_at, Table, Tables}
 use Rattle.tables.specs.Ready.{with_names}
-use Rattle.tables.proofs.Columns.{names_columns, names-told}
+use Rattle.tables.proofs.Columns.{names_columns, names_told}
 use Rattle.tables.proofs.Fills.{ready_other}
 use Rattle.tables.proofs.Moves.{table_placed}
 use Rattle.places.specs.declared.task.Task.{Task}
@@ -31,26 +31,26 @@ use Rattle.intervals.specs.Gather.{cut_to, gathered, Adds, Ends}
 use Rattle.places.specs.Task.{missed_task}
 use Rattle.places.specs.Laid.{Laid, IsFormula, Formulas, reply_on, missed_on, over_last}
 use Rattle.intervals.proofs.Found.{missed_fewer, missed_premise}
-use Rattle.places.proofs.Loops.{missed-least}
+use Rattle.places.proofs.Loops.{missed_least}
 use Rattle.intervals.proofs.Places.{least_stay, numbered_fewer, numbered_false}
 
 -- ---- names laid on other cycles
 module _ {nodes reach : List ℕ} {count n : ℕ} {σ : Trace} where
-  pub laid-again : {columns columns' words words' : List ℕ} (cycles : List ℕ) → Laid nodes count n reach σ columns words → Inside n cycles
+  pub laid_again : {columns columns' words words' : List ℕ} (cycles : List ℕ) → Laid nodes count n reach σ columns words → Inside n cycles
       → columns' ≡ with_names columns cycles → Tables (node_at nodes) count n columns' words' → length words' ≡ length words → Laid nodes count n reach σ columns' words'
-  laid-again {columns} {columns'} {words} {words'} cycles l i e t same =
+  laid_again {columns} {columns'} {words} {words'} cycles l i e t same =
       let c = l.ready.given.columned in
       record {
         ready = rw e (ready_other (with_names columns cycles) words' (names_columns cycles l.ready.given.few_cycles i c) same l.ready);
         tables = t;
-        told = rw e (names-told columns cycles c.all n ∙ l.told);
+        told = rw e (names_told columns cycles c.all n ∙ l.told);
       }
 
   -- the tables are then those of the placement
-  pub laid-placed : {columns columns' words words' : List ℕ} (cycles : List ℕ) → Laid nodes count n reach σ columns words → Inside n cycles
+  pub laid_placed : {columns columns' words words' : List ℕ} (cycles : List ℕ) → Laid nodes count n reach σ columns words → Inside n cycles
       → columns' ≡ with_names columns cycles → Tables (node_at nodes) count n columns' words' → length words' ≡ length words
       → (i : ℕ) → i < count → Table (node_at nodes) σ (marks (standing cycles)) n words' i
-  laid-placed {columns} {columns'} {words} {words'} cycles l i e t same k h =
+  laid_placed {columns} {columns'} {words} {words'} cycles l i e t same k h =
       let c = l.ready.given.columned in
       let r = ready_other (with_names columns cycles) words' (names_columns cycles l.ready.given.few_cycles i c) same l.ready in
       subst (λ (τ : Trace). Table (node_at nodes) τ (marks (standing cycles)) n words' k) l.told
@@ -63,26 +63,26 @@ module _ {nodes words : List ℕ} {count n : ℕ} {σ : Trace} (ν : Placement) 
     row_of : (b : ℕ) → b < n → row_at words root b ≡ row n (holds (formula_at (node_at nodes) root) σ (marks ν)) b
     row_of b h = (placed root f.below).rows f.sort b h
 
-    pub gathered-on : (b e : ℕ) → b ≤ e → e < n → gathered words root names false ν b e ≡ on_inside (part_of (node_at nodes) root names) σ ν b e
+    pub gathered_on : (b e : ℕ) → b ≤ e → e < n → gathered words root names false ν b e ≡ on_inside (part_of (node_at nodes) root names) σ ν b e
     unfolding gathered cut_to on_inside on part_of
-    gathered-on b e o h =
+    gathered_on b e o h =
         ap (λ (r : Bool). inside (bit names) b e ν && r)
         (ap (λ (x : ℕ). bit x e) (row_of b (omega arith)) ∙ row_at_lem n (holds (formula_at (node_at nodes) root) σ (marks ν)) b e o h)
 
-    pub gathered-short : (b e : ℕ) → b ≤ e → e < n → gathered words root names true ν b e ≡ short_inside (part_of (node_at nodes) root names) σ ν b e
+    pub gathered_short : (b e : ℕ) → b ≤ e → e < n → gathered words root names true ν b e ≡ short_inside (part_of (node_at nodes) root names) σ ν b e
     unfolding gathered cut_to short_inside shortest on part_of
-    gathered-short b e o h =
+    gathered_short b e o h =
         ap (λ (r : Bool). inside (bit names) b e ν && r)
         (ap (λ (x : ℕ). bit (shortest_of x) e) (row_of b (omega arith))
         ∙ ap (λ (x : ℕ). bit x e) (shortest_row n (holds (formula_at (node_at nodes) root) σ (marks ν)) b few)
         ∙ row_at_lem n _ b e o h)
 
   -- the answers of one placement
-  pub replies-added : (task : Task) (rows rows' : List ℕ) → Formulas nodes count task → Adds n rows rows' (gathered words task.reply task.replies false ν)
+  pub replies_added : (task : Task) (rows rows' : List ℕ) → Formulas nodes count task → Adds n rows rows' (gathered words task.reply task.replies false ν)
       → Adds n rows rows' (λ b e. reply_on nodes σ task b e ν)
   unfolding reply_on
-  replies-added task rows rows' f a =
-      record { adds = λ b e l h. a.adds b e l h ∙ ap (λ (r : Bool). test_of rows b e || r) (gathered-on task.replies f.reply b e l h) }
+  replies_added task rows rows' f a =
+      record { adds = λ b e l h. a.adds b e l h ∙ ap (λ (r : Bool). test_of rows b e || r) (gathered_on task.replies f.reply b e l h) }
 
   -- ---- what the search finds in the arrays that were gathered for one placement
   module _ (task : Task) (f : Formulas nodes count task) (best : ℕ) where
@@ -99,13 +99,13 @@ module _ {nodes words : List ℕ} {count n : ℕ} {σ : Trace} (ν : Placement) 
     Missed r = IsLeast best (λ y. missed_on nodes σ n task y ν) r
 
     -- the premise has no interval
-    pub none-premised : (some : ℕ) → premised (type_of task.clause_type) ≡ true → some ≡ 0
+    pub none_premised : (some : ℕ) → premised (type_of task.clause_type) ≡ true → some ≡ 0
         → Ends n (gathered words task.premise task.premises false ν) some → Missed best
     unfolding missed_on missed_task
-    none-premised some p z ends =
+    none_premised some p z ends =
         least_stay (λ y l. numbered_false n _ y (λ hi hj hk.
         missed_premise (type_of task.clause_type) _ _ _ n _ _ _ p hj (λ b e o h.
-        sym (gathered-on task.premises f.premise b e o h)
+        sym (gathered_on task.premises f.premise b e o h)
         ∙ is_false (gathered words task.premise task.premises false ν b e) (λ q.
         false_not (bit some e) (ap (λ (x : ℕ). bit x e) z ∙ bit_nothing e) (ends.ends b e o h q)))))
 
@@ -119,19 +119,19 @@ module _ {nodes words : List ℕ} {count n : ℕ} {σ : Trace} (ν : Placement) 
 
     module _ (first third : List ℕ) (a₁ : Adds n (replicate 64 0) first (gathered words task.premise task.premises false ν))
         (a₃ : Adds n (replicate 64 0) third (gathered words task.third task.thirds true ν)) where
-      first-is : (b e : ℕ) → b ≤ e → e < n → test_of first b e ≡ premises b e
+      first_is_lem : (b e : ℕ) → b ≤ e → e < n → test_of first b e ≡ premises b e
       unfolding premises
-      first-is b e o h = fresh first _ a₁ b e o h ∙ gathered-on task.premises f.premise b e o h
+      first_is_lem b e o h = fresh first _ a₁ b e o h ∙ gathered_on task.premises f.premise b e o h
 
-      third-is : (b e : ℕ) → b ≤ e → e < n → test_of third b e ≡ thirds b e
+      third_is : (b e : ℕ) → b ≤ e → e < n → test_of third b e ≡ thirds b e
       unfolding thirds
-      third-is b e o h = fresh third _ a₃ b e o h ∙ gathered-short task.thirds f.third b e o h
+      third_is b e o h = fresh third _ a₃ b e o h ∙ gathered_short task.thirds f.third b e o h
 
-      pub place-least : (answers : List ℕ) (r : ℕ) → Adds n (replicate 64 0) answers (λ b e. over_last 3 (bit task.replies) n ν (reply_on nodes σ task b e))
+      pub place_least : (answers : List ℕ) (r : ℕ) → Adds n (replicate 64 0) answers (λ b e. over_last 3 (bit task.replies) n ν (reply_on nodes σ task b e))
           → IsLeast best (numbered n (missed (type_of task.clause_type) (test_of first) (test_of third) (test_of answers))) r → Missed r
       unfolding missed_on missed_task answered reply_on over_last some_placement part_of premises thirds replies
-      place-least answers r a₂ least =
-          missed-least n (test_of first) premises (test_of third) thirds (test_of answers) replies first-is third-is
+      place_least answers r a₂ least =
+          missed_least n (test_of first) premises (test_of third) thirds (test_of answers) replies first_is_lem third_is
           (λ b e o h. fresh answers _ a₂ b e o h) (type_of task.clause_type) best r least
 
       -- nothing is open without any answer
@@ -142,6 +142,6 @@ module _ {nodes words : List ℕ} {count n : ℕ} {σ : Trace} (ν : Placement) 
           least_stay (λ y l.
           numbered_fewer n (missed (type_of task.clause_type) premises thirds (λ b e. false)) (missed (type_of task.clause_type) premises thirds replies)
           (λ i j k. missed_fewer (type_of task.clause_type) premises thirds replies i j k) y
-          ((missed-least n (test_of first) premises (test_of third) thirds (test_of rows) (λ b e. false) first-is third-is
+          ((missed_least n (test_of first) premises (test_of third) thirds (test_of rows) (λ b e. false) first_is_lem third_is
           (λ b e o h. ap (λ (w : List ℕ). bit (get_or w b 0) e) z ∙ ap (λ (x : ℕ). bit x e) (get_or-replicate 64 b 0 0 (omega arith)) ∙ bit_nothing e)
           (type_of task.clause_type) best best least).before y l))

@@ -83,9 +83,9 @@ adds_ext n before after p q f a = record { adds = λ b e l h. a.adds b e l h ∙
 
 -- ---- what a walk has found
 module _ (job : Job) (nodes : List ℕ) (σ : Trace) where
-  pub walked-ext : {best r : ℕ} {rows rows' : List ℕ} {over over' : (Placement → Bool) → Bool} → ((q : Placement → Bool) → over q ≡ over' q)
+  pub walked_ext : {best r : ℕ} {rows rows' : List ℕ} {over over' : (Placement → Bool) → Bool} → ((q : Placement → Bool) → over q ≡ over' q)
       → Walked job nodes σ best r rows rows' over → Walked job nodes σ best r rows rows' over'
-  walked-ext {rows = rows} {rows'} {over} {over'} f w =
+  walked_ext {rows = rows} {rows'} {over} {over'} f w =
       record {
         places = λ e. least_ext (λ y h. f (missed_on nodes σ job.n job.task y)) (w.places e);
         answers = λ e. adds_ext job.n rows rows' _ _ (λ b c l h. f (reply_on nodes σ job.task b c)) (w.answers e);
@@ -108,10 +108,10 @@ module _ (job : Job) (nodes : List ℕ) (σ : Trace) where
       none q = some_none low low (λ t. over t q) (λ t x y z. absurd (omega arith))
 
   -- one cycle more
-  pub walked-turn : (low t : ℕ) {best r s : ℕ} {rows rows' rows'' : List ℕ} (over : ℕ → (Placement → Bool) → Bool) → low ≤ t
+  pub walked_turn : (low t : ℕ) {best r s : ℕ} {rows rows' rows'' : List ℕ} (over : ℕ → (Placement → Bool) → Bool) → low ≤ t
       → Walked job nodes σ best r rows rows' (λ q. some_from low t (λ t. over t q)) → Walked job nodes σ r s rows' rows'' (over t)
       → Walked job nodes σ best s rows rows'' (λ q. some_from low (t + 1) (λ t. over t q))
-  walked-turn low t {best} {r} {s} {rows} {rows'} {rows''} over h w v =
+  walked_turn low t {best} {r} {s} {rows} {rows'} {rows''} over h w v =
       record {
         places = λ e. least_ext (λ y l. turn (missed_on nodes σ job.n job.task y)) (least_then (w.places e) (v.places e));
         answers = λ e. record {
@@ -134,33 +134,33 @@ module _ (job : Job) (nodes : List ℕ) (σ : Trace) where
 -- ---- tests that agree on the intervals of the trace miss alike
 module _ (n : ℕ) (f f' t t' a a' : ℕ → ℕ → Bool) (ef : (b e : ℕ) → b ≤ e → e < n → f b e ≡ f' b e) (et : (b e : ℕ) → b ≤ e → e < n → t b e ≡ t' b e)
     (ea : (b e : ℕ) → b ≤ e → e < n → a b e ≡ a' b e) where
-  none-upto : (s k : ℕ) → k < n → some_in s k (a s) ≡ some_in s k (a' s)
-  none-upto s k h = some_cong s (suc k) (a s) (a' s) (λ l x y. ea s l x (omega arith))
+  none_upto : (s k : ℕ) → k < n → some_in s k (a s) ≡ some_in s k (a' s)
+  none_upto s k h = some_cong s (suc k) (a s) (a' s) (λ l x y. ea s l x (omega arith))
 
   under : (x y p q : Bool) → (x ≡ true → y ≡ true → p ≡ q) → x && y && p ≡ (x && y && q)
   under true true p q g = g refl refl
   under true false p q g = refl
   under false y p q g = refl
 
-  missed-ext : (κ : ClauseType) (i j k : ℕ) → j < n → k < n → missed κ f t a i j k ≡ missed κ f' t' a' i j k
+  missed_ext : (κ : ClauseType) (i j k : ℕ) → j < n → k < n → missed κ f t a i j k ≡ missed κ f' t' a' i j k
   unfolding missed
-  missed-ext pref i j k hj hk = ap (λ (r : Bool). eqb i 0 && eqb k j && not r) (ea 0 j (omega arith) hj)
-  missed-ext init i j k hj hk =
-      ap₂ (λ (r s : Bool). eqb i 0 && eqb k j && (r && not s)) (ef 0 j (omega arith) hj) (none-upto 0 j hj)
-  missed-ext anti i j k hj hk = under (leb i j) (eqb k j) (f i j) (f' i j) (λ p q. ef i j (leb-true i j p) hj)
-  missed-ext implies i j k hj hk =
+  missed_ext pref i j k hj hk = ap (λ (r : Bool). eqb i 0 && eqb k j && not r) (ea 0 j (omega arith) hj)
+  missed_ext init i j k hj hk =
+      ap₂ (λ (r s : Bool). eqb i 0 && eqb k j && (r && not s)) (ef 0 j (omega arith) hj) (none_upto 0 j hj)
+  missed_ext anti i j k hj hk = under (leb i j) (eqb k j) (f i j) (f' i j) (λ p q. ef i j (leb-true i j p) hj)
+  missed_ext implies i j k hj hk =
       under (leb i j) (eqb k j) (f i j && not (a i j)) (f' i j && not (a' i j))
       (λ p q. ap₂ (λ (r s : Bool). r && not s) (ef i j (leb-true i j p) hj) (ea i j (leb-true i j p) hj))
-  missed-ext follows i j k hj hk =
+  missed_ext follows i j k hj hk =
       under (leb i j) (leb j k) (f i j && (t j k && not (some_in j k (a j)))) (f' i j && (t' j k && not (some_in j k (a' j))))
       (λ p q. ap₂ (λ (r s : Bool). r && s) (ef i j (leb-true i j p) hj)
-      (ap₂ (λ (r s : Bool). r && not s) (et j k (leb-true j k q) hk) (none-upto j k hk)))
-  missed-ext triggers i j k hj hk =
+      (ap₂ (λ (r s : Bool). r && not s) (et j k (leb-true j k q) hk) (none_upto j k hk)))
+  missed_ext triggers i j k hj hk =
       under (leb i j) (leb i k) (f i j && (t i k && not (some_in i k (a i)))) (f' i j && (t' i k && not (some_in i k (a' i))))
       (λ p q. ap₂ (λ (r s : Bool). r && s) (ef i j (leb-true i j p) hj)
-      (ap₂ (λ (r s : Bool). r && not s) (et i k (leb-true i k q) hk) (none-upto i k hk)))
+      (ap₂ (λ (r s : Bool). r && not s) (et i k (leb-true i k q) hk) (none_upto i k hk)))
 
-  pub missed-least : (κ : ClauseType) (best r : ℕ) → IsLeast best (numbered n (missed κ f t a)) r → IsLeast best (numbered n (missed κ f' t' a')) r
-  missed-least κ best r l =
+  pub missed_least : (κ : ClauseType) (best r : ℕ) → IsLeast best (numbered n (missed κ f t a)) r → IsLeast best (numbered n (missed κ f' t' a')) r
+  missed_least κ best r l =
       least_ext (λ x m. numbered_same n (missed κ f t a) (missed κ f' t' a') x
-      (λ hi hj hk. missed-ext κ (x / 4096) (x / 64 % 64) (x % 64) hj hk)) l
+      (λ hi hj hk. missed_ext κ (x / 4096) (x / 64 % 64) (x % 64) hj hk)) l

@@ -67,12 +67,12 @@ task_missed : (x : ℕ → Node) (d : StoredClause) → Masks d → 1 ≤ d.clau
 unfolding task_of type_numbered stored.type_of missed_task missed_by missed premise reply quantified part_of
 task_missed x d m l h σ last ν i j k =
     type_cases (λ n. missed_task x (task_of (fields n d)) σ last ν i j k ≡ missed_by (stored.type_of n) d₁ d₂ d₃ σ last ν i j k)
-    (ap (missedWith 1 d₃) (part_less x d.root1 d.mask1 0 m.first (omega arith) ∙ ap (λ (names : Names). fresh names d₁) no_mask))
-    (ap (missedWith 2 d₃) (part_less x d.root1 d.mask1 d.mask2 m.first m.second))
+    (ap (missed_with 1 d₃) (part_less x d.root1 d.mask1 0 m.first (omega arith) ∙ ap (λ (names : Names). fresh names d₁) no_mask))
+    (ap (missed_with 2 d₃) (part_less x d.root1 d.mask1 d.mask2 m.first m.second))
     refl
-    (ap (missedWith 4 d₃) (part_less x d.root2 d.mask2 d.mask1 m.second m.first))
-    (ap₂ (missedWith 5) third late)
-    (ap₂ (missedWith 6) third late)
+    (ap (missed_with 4 d₃) (part_less x d.root2 d.mask2 d.mask1 m.second m.first))
+    (ap₂ (missed_with 5) third late)
+    (ap₂ (missed_with 6) third late)
     d.clause_type l h
   where
     d₁ : Part
@@ -84,8 +84,8 @@ task_missed x d m l h σ last ν i j k =
     d₃ : Part
     d₃ = part_of x d.root3 d.mask3
 
-    missedWith : ℕ → Part → Part → Bool
-    missedWith n ended answering =
+    missed_with : ℕ → Part → Part → Bool
+    missed_with n ended answering =
         missed (stored.type_of n) (on_inside (premise (stored.type_of n) d₁ d₂) σ ν) (short_inside ended σ ν) (answered answering σ last ν) i j k
 
     third : part_of x d.root3 (bit_and d.mask3 (2 ^ 64 - 1 - d.mask1)) ≡ fresh (bit d.mask1) d₃

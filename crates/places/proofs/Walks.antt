@@ -25,8 +25,8 @@ use Rattle.intervals.specs.Places.{numbered, IsLeast}
 use Rattle.intervals.specs.Rows.{type_of, test_of}
 use Rattle.intervals.specs.Search.{premised, missed}
 use Rattle.places.specs.Laid.{Laid, IsFormula, Walkable, Unneeded, Walked, with_next, over_last, missed_on, reply_on, low_of, last_of}
-use Rattle.places.proofs.Laying.{laid-again, laid-placed, none-premised, place-least, place_none}
-use Rattle.places.proofs.Loops.{level, walked-ext}
+use Rattle.places.proofs.Laying.{laid_again, laid_placed, none_premised, place_least, place_none}
+use Rattle.places.proofs.Loops.{level, walked_ext}
 use Rattle.intervals.proofs.Places.{least_stay}
 
 -- tables laid for the cycles of a spot
@@ -35,10 +35,10 @@ pub record Placed (nodes : List ℕ) (count n : ℕ) (reach : List ℕ) (σ : Tr
   pub tables : (i : ℕ) → i < count → Table (node_at nodes) σ (marks (standing cycles)) n words i
 
 module _ {spot : Spot} {job : Job} {best : ℕ} {nodes reach columns words : List ℕ} (w : Walkable spot job best nodes reach columns words) where
-  pub lay-placed : {columns' words' : List ℕ} → columns' ≡ with_names columns spot.cycles → Tables (node_at nodes) job.count job.n columns' words'
+  pub lay_placed : {columns' words' : List ℕ} → columns' ≡ with_names columns spot.cycles → Tables (node_at nodes) job.count job.n columns' words'
       → length words' ≡ length words → Placed nodes job.count job.n reach (trace_of job.n columns) spot.cycles columns' words'
-  lay-placed e t same =
-      record { laid = laid-again spot.cycles w.laid w.inside e t same; tables = laid-placed spot.cycles w.laid w.inside e t same }
+  lay_placed e t same =
+      record { laid = laid_again spot.cycles w.laid w.inside e t same; tables = laid_placed spot.cycles w.laid w.inside e t same }
 
   pub few_cycles : job.n ≤ 64
   few_cycles = w.laid.ready.given.few_cycles
@@ -47,13 +47,13 @@ module _ {spot : Spot} {job : Job} {best : ℕ} {nodes reach columns words : Lis
   some_cycles = w.laid.ready.given.some_cycles
 
   -- a node's rows stand in the words
-  pub root-rows : {columns' words' : List ℕ} {root : ℕ} → Placed nodes job.count job.n reach (trace_of job.n columns) spot.cycles columns' words'
+  pub root_rows : {columns' words' : List ℕ} {root : ℕ} → Placed nodes job.count job.n reach (trace_of job.n columns) spot.cycles columns' words'
       → IsFormula nodes job.count root → 64 * root + 64 ≤ length words'
-  root-rows p f = let long = p.laid.ready.given.words_long in let below = f.below in omega arith
+  root_rows p f = let long = p.laid.ready.given.words_long in let below = f.below in omega arith
 
   -- the same spot after the tables were laid for others
-  pub walkable-again : {columns' words' : List ℕ} {σ : Trace} → Laid nodes job.count job.n reach σ columns' words' → Walkable spot job best nodes reach columns' words'
-  walkable-again l =
+  pub walkable_again : {columns' words' : List ℕ} {σ : Trace} → Laid nodes job.count job.n reach σ columns' words' → Walkable spot job best nodes reach columns' words'
+  walkable_again l =
       record {
         laid = record { ready = l.ready; tables = l.tables; told = refl };
         formulas = w.formulas;
@@ -64,10 +64,10 @@ module _ {spot : Spot} {job : Job} {best : ℕ} {nodes reach columns words : Lis
       }
 
   -- the next name on cycle t
-  pub walkable-next : {columns' words' : List ℕ} {σ : Trace} (least t : ℕ) (next : Spot) → next ≡ with_next spot t → Laid nodes job.count job.n reach σ columns' words'
+  pub walkable_next : {columns' words' : List ℕ} {σ : Trace} (least t : ℕ) (next : Spot) → next ≡ with_next spot t → Laid nodes job.count job.n reach σ columns' words'
       → least ≤ best → 0 < spot.left → t < job.n → Walkable next job least nodes reach columns' words'
   unfolding with_next standing
-  walkable-next {columns'} {words'} least t next e l less some h =
+  walkable_next {columns'} {words'} least t next e l less some h =
       subst (λ (z : Spot). Walkable z job least nodes reach columns' words') (sym e)
       (record {
         laid = record { ready = l.ready; tables = l.tables; told = refl };
@@ -95,9 +95,9 @@ module _ {spot : Spot} {job : Job} {best : ℕ} {nodes reach columns words : Lis
   abbrev pub afresh : Spot
   afresh = record { left = 3; cycles = spot.cycles }
 
-  pub walkable-within : {columns' words' : List ℕ} → Placed nodes job.count job.n reach (trace_of job.n columns) spot.cycles columns' words'
+  pub walkable_within : {columns' words' : List ℕ} → Placed nodes job.count job.n reach (trace_of job.n columns) spot.cycles columns' words'
       → Walkable afresh within best nodes reach columns' words'
-  walkable-within p =
+  walkable_within p =
       record {
         laid = record { ready = p.laid.ready; tables = p.laid.tables; told = refl };
         formulas = w.formulas;
@@ -114,7 +114,7 @@ module _ {spot : Spot} {job : Job} {best : ℕ} {nodes reach columns words : Lis
         → Ends job.n (gathered words' job.task.premise job.task.premises false (standing spot.cycles)) some
         → IsLeast best (λ y. missed_on nodes (trace_of job.n columns) job.n job.task y (standing spot.cycles)) best
     find_none some e ends =
-        none-premised (standing spot.cycles) few_cycles p.tables job.task w.formulas best some
+        none_premised (standing spot.cycles) few_cycles p.tables job.task w.formulas best some
         (and_right (eqb some 0) (premised (type_of job.task.clause_type)) e) (eqb-true some 0 (and_left (eqb some 0) (premised (type_of job.task.clause_type)) e)) ends
 
     module _ {first third : List ℕ}
@@ -127,16 +127,16 @@ module _ {spot : Spot} {job : Job} {best : ℕ} {nodes reach columns words : Lis
       Missed r = IsLeast best (λ y. missed_on nodes (trace_of job.n columns) job.n job.task y (standing spot.cycles)) r
 
       -- nothing is open without any answer
-      pub find-closed : {rows : List ℕ} {r : ℕ} → rows ≡ replicate 64 0 → r ≡ best → Found rows r → Missed best
-      find-closed {rows} {r} z e l =
+      pub find_closed : {rows : List ℕ} {r : ℕ} → rows ≡ replicate 64 0 → r ≡ best → Found rows r → Missed best
+      find_closed {rows} {r} z e l =
           place_none (standing spot.cycles) few_cycles p.tables job.task w.formulas best first third a₁ a₃ rows z (subst (λ (x : ℕ). Found rows x) e l)
 
       -- with the answers of a walk over their names
-      pub find-open : {rows rows' : List ℕ} {r x : ℕ} → rows ≡ replicate 64 0
+      pub find_open : {rows rows' : List ℕ} {r x : ℕ} → rows ≡ replicate 64 0
           → Walked within nodes (trace_of job.n columns') best x rows rows' (over_last 3 (bit job.task.replies) job.n (standing spot.cycles))
           → Found rows' r → Missed r
-      find-open {rows} {rows'} {r} z a l =
-          place-least (standing spot.cycles) few_cycles p.tables job.task w.formulas best first third a₁ a₃ rows' r
+      find_open {rows} {rows'} {r} z a l =
+          place_least (standing spot.cycles) few_cycles p.tables job.task w.formulas best first third a₁ a₃ rows' r
           (subst (λ (τ : Trace). Adds job.n (replicate 64 0) rows' (λ b e. over_last 3 (bit job.task.replies) job.n (standing spot.cycles) (reply_on nodes τ job.task b e)))
           p.laid.told
           (subst (λ (k : List ℕ). Adds job.n k rows' (λ b e. over_last 3 (bit job.task.replies) job.n (standing spot.cycles) (reply_on nodes (trace_of job.n columns') job.task b e))) z
@@ -145,8 +145,8 @@ module _ {spot : Spot} {job : Job} {best : ℕ} {nodes reach columns words : Lis
 
 -- ---- the columns tell the same trace before and after
 module _ {nodes reach columns words : List ℕ} {count n : ℕ} {σ : Trace} (l : Laid nodes count n reach σ columns words) where
-  pub laid-own : Laid nodes count n reach (trace_of n columns) columns words
-  laid-own = record { ready = l.ready; tables = l.tables; told = refl }
+  pub laid_own : Laid nodes count n reach (trace_of n columns) columns words
+  laid_own = record { ready = l.ready; tables = l.tables; told = refl }
 
   pub relaid : {columns' words' : List ℕ} → Laid nodes count n reach (trace_of n columns) columns' words' → Laid nodes count n reach σ columns' words'
   relaid k = record { ready = k.ready; tables = k.tables; told = k.told ∙ l.told }
@@ -172,24 +172,24 @@ module _ (job : Job) (nodes : List ℕ) (σ : Trace) (spot : Spot) where
   abbrev Over : (Placement → Bool) → Bool
   Over = over_last spot.left (bit job.names) job.n (standing spot.cycles)
 
-  pub walked-unneeded : {best : ℕ} {rows : List ℕ} → Unneeded spot job best nodes σ → Walked job nodes σ best best rows rows Over
-  walked-unneeded u =
+  pub walked_unneeded : {best : ℕ} {rows : List ℕ} → Unneeded spot job best nodes σ → Walked job nodes σ best best rows rows Over
+  walked_unneeded u =
       record { places = λ e. least_stay u.none; answers = λ e. absurd (false≢true (sym u.looking ∙ e)); most = omega arith }
 
   last : (q : Placement → Bool) → spot.left ≡ 0 → q (standing spot.cycles) ≡ Over q
   unfolding over_last
   last q e = rw e refl
 
-  pub walked-answer : {best : ℕ} {rows rows' : List ℕ} → spot.left ≡ 0 → job.answering ≡ true
+  pub walked_answer : {best : ℕ} {rows rows' : List ℕ} → spot.left ≡ 0 → job.answering ≡ true
       → Adds job.n rows rows' (λ b e. reply_on nodes σ job.task b e (standing spot.cycles)) → Walked job nodes σ best best rows rows' Over
-  walked-answer e is a =
-      walked-ext job nodes σ {over = λ q. q (standing spot.cycles)} (λ q. last q e)
+  walked_answer e is a =
+      walked_ext job nodes σ {over = λ q. q (standing spot.cycles)} (λ q. last q e)
       (record { places = λ not. absurd (false≢true (sym not ∙ is)); answers = λ _. a; most = omega arith })
 
-  pub walked-find : {best r : ℕ} {rows rows' : List ℕ} → spot.left ≡ 0 → job.answering ≡ false
+  pub walked_find : {best r : ℕ} {rows rows' : List ℕ} → spot.left ≡ 0 → job.answering ≡ false
       → IsLeast best (λ y. missed_on nodes σ job.n job.task y (standing spot.cycles)) r → Walked job nodes σ best r rows rows' Over
-  walked-find e not l =
-      walked-ext job nodes σ {over = λ q. q (standing spot.cycles)} (λ q. last q e)
+  walked_find e not l =
+      walked_ext job nodes σ {over = λ q. q (standing spot.cycles)} (λ q. last q e)
       (record { places = λ _. l; answers = λ is. absurd (false≢true (sym not ∙ is)); most = l.most })
 
   -- the walk of the next spot is one cycle of it
@@ -199,12 +199,12 @@ module _ (job : Job) (nodes : List ℕ) (σ : Trace) (spot : Spot) where
   walked_next {best} {r} {rows} {rows'} t e w =
       subst (λ (z : Spot). Walked job nodes σ best r rows rows' (over_last z.left (bit job.names) job.n (standing z.cycles))) e w
 
-  pub walked-level : {best r low last t : ℕ} {rows rows' : List ℕ} → length spot.cycles ≡ 3 → 0 < spot.left → spot.left ≤ 3 → 0 < job.n
+  pub walked_level : {best r low last t : ℕ} {rows rows' : List ℕ} → length spot.cycles ≡ 3 → 0 < spot.left → spot.left ≤ 3 → 0 < job.n
       → low ≡ low_of (bit job.names (3 - spot.left)) (get_or spot.cycles (3 - spot.left) 0)
       → last ≡ last_of (bit job.names (3 - spot.left)) job.n (get_or spot.cycles (3 - spot.left) 0) → t ≡ suc last
       → Walked job nodes σ best r rows rows' (λ q. some_from low t (λ i. next_over job spot i q)) → Walked job nodes σ best r rows rows' Over
-  walked-level {low = low} {last} long some three h l k e w =
-      walked-ext job nodes σ (λ q. ap (λ (z : ℕ). some_from low z (λ i. next_over job spot i q)) e ∙ level spot.cycles spot.left job.names job.n low last q long some three h l k) w
+  walked_level {low = low} {last} long some three h l k e w =
+      walked_ext job nodes σ (λ q. ap (λ (z : ℕ). some_from low z (λ i. next_over job spot i q)) e ∙ level spot.cycles spot.left job.names job.n low last q long some three h l k) w
 
 -- ---- how many names are left falls
 pub places_above : (left m : ℕ) (answering : Bool) → answering ≡ false → left + cond answering 0 9 ≡ m → 8 < m

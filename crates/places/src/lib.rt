@@ -1,3 +1,5 @@
 // The first broken place of a clause, over tables in the lent words.
+#![tactic(auto)]
+
 pub mod task;
 pub mod walk;

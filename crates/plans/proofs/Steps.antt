@@ -18,7 +18,7 @@ use Rattle.stored.specs.Layout.{emitted_kind, nodes_start, nodes_end, following,
 use Rattle.stored.specs.Node.{emitted_sorts, sort_of, sort_below, a_use, b_use, fields_right, operand_right, operands_right}
 use Rattle.stored.specs.Sheet.{header_of}
 use Rattle.stored.specs.Written.{node_in, NodeFits, put_node, put_header, header_bytes}
-use Rattle.stored.proofs.Written.{put-length, put_back, put_read, put_other, header-length, header-back, header-nodes, header-byte, header_read, header-rest}
+use Rattle.stored.proofs.Written.{put_length, put_back, put_read, put_other, header_length, header_back, header_nodes, header_byte, header_read, header_rest}
 use Rattle.stored.proofs.Tree.{proposition_agree, formula_agree}
 use Rattle.plans.specs.Bound.{most_emitted}
 use Rattle.plans.specs.Emission.{count, proposition_in, formula_in, Good, Step, HasProposition, Has, Emits, Shared, Ready}
@@ -160,7 +160,7 @@ module _ (x : List ℕ) (n : Node) (may : Addable x n) where
 
   held : nodes_start ≤ length (put_node x c n)
   unfolding c
-  held = rw put-length (omega (arith, may.good.long))
+  held = rw put_length (omega (arith, may.good.long))
 
   head : header_of (appended x n) ≡ record { signals = s; names = m; nodes = c + 1; clauses = 0 }
   unfolding appended c s m
@@ -168,55 +168,55 @@ module _ (x : List ℕ) (n : Node) (may : Addable x n) where
 
   size_same : length (appended x n) ≡ length x
   unfolding appended c s m
-  size_same = header-length (put_node x c n) emitted_kind s m (c + 1) 0 ∙ put-length x c n
+  size_same = header_length (put_node x c n) emitted_kind s m (c + 1) 0 ∙ put_length x c n
 
-  is-new : node_in (appended x n) c ≡ n
+  is_new : node_in (appended x n) c ≡ n
   unfolding appended c s m
-  is-new = header-nodes (put_node x c n) emitted_kind s m (c + 1) 0 c ∙ put_read x c n (omega (arith, inside))
+  is_new = header_nodes (put_node x c n) emitted_kind s m (c + 1) 0 c ∙ put_read x c n (omega (arith, inside))
 
-  is-old : (i : ℕ) → (i ≡ c → ⊥) → node_in (appended x n) i ≡ node_in x i
+  is_old : (i : ℕ) → (i ≡ c → ⊥) → node_in (appended x n) i ≡ node_in x i
   unfolding appended c s m
-  is-old i h = header-nodes (put_node x c n) emitted_kind s m (c + 1) 0 i ∙ put_other x c n i h
+  is_old i h = header_nodes (put_node x c n) emitted_kind s m (c + 1) 0 i ∙ put_other x c n i h
 
-  back-same : (t : ℕ) → nodes_end (c + 1) ≤ t → drop t (appended x n) ≡ drop t x
+  back_same : (t : ℕ) → nodes_end (c + 1) ≤ t → drop t (appended x n) ≡ drop t x
   unfolding appended c s m
-  back-same t h = header-back (put_node x c n) emitted_kind s m (c + 1) 0 t (omega arith) ∙ put_back x c n t (omega arith)
+  back_same t h = header_back (put_node x c n) emitted_kind s m (c + 1) 0 t (omega arith) ∙ put_back x c n t (omega arith)
 
-  version-is : get_or (appended x n) 2 0 ≡ 1
+  version_is : get_or (appended x n) 2 0 ≡ 1
   unfolding appended c s m header_bytes
-  version-is = header-byte (put_node x c n) emitted_kind s m (c + 1) 0 held 2 (omega arith)
+  version_is = header_byte (put_node x c n) emitted_kind s m (c + 1) 0 held 2 (omega arith)
 
-  kind-is : get_or (appended x n) 3 0 ≡ 2
+  kind_is : get_or (appended x n) 3 0 ≡ 2
   unfolding appended c s m header_bytes
-  kind-is = header-byte (put_node x c n) emitted_kind s m (c + 1) 0 held 3 (omega arith)
+  kind_is = header_byte (put_node x c n) emitted_kind s m (c + 1) 0 held 3 (omega arith)
 
-  rest-is : word (appended x n) 0 ≡ following (nodes_end (c + 1))
+  rest_is : word (appended x n) 0 ≡ following (nodes_end (c + 1))
   unfolding appended c s m
-  rest-is = let rest = header-rest (put_node x c n) emitted_kind s m (c + 1) 0 held in omega arith
+  rest_is = let rest = header_rest (put_node x c n) emitted_kind s m (c + 1) 0 held in omega arith
 
-  node-right : (i : ℕ) → i < c + 1 → fields_right emitted_sorts s m (node_in (appended x n) i) ≡ true
+  node_right_lem : (i : ℕ) → i < c + 1 → fields_right emitted_sorts s m (node_in (appended x n) i) ≡ true
   unfolding c s m
-  node-right i h =
+  node_right_lem i h =
       elim (test (eqb i c)) [
         | inl e ↦ let is = eqb-true i c e in
-            ap (λ (j : ℕ). fields_right emitted_sorts s m (node_in (appended x n) j)) is ∙ ap (fields_right emitted_sorts s m) is-new ∙ may.right
-        | inr e ↦ let other = eqb-false i c e in ap (fields_right emitted_sorts s m) (is-old i other) ∙ may.good.nodes_right_holds i (omega arith)
+            ap (λ (j : ℕ). fields_right emitted_sorts s m (node_in (appended x n) j)) is ∙ ap (fields_right emitted_sorts s m) is_new ∙ may.right
+        | inr e ↦ let other = eqb-false i c e in ap (fields_right emitted_sorts s m) (is_old i other) ∙ may.good.nodes_right_holds i (omega arith)
       ]
 
-  operand-right : (i : ℕ) → i < c + 1 → operands_right emitted_sorts (node_in (appended x n)) i ≡ true
+  operand_right_lem : (i : ℕ) → i < c + 1 → operands_right emitted_sorts (node_in (appended x n)) i ≡ true
   unfolding c operands_right
-  operand-right i h =
+  operand_right_lem i h =
       elim (test (eqb i c)) [
         | inl e ↦ let is = eqb-true i c e in
-            let less : (k : ℕ) → k < c → node_in (appended x n) k ≡ node_in x k = λ k l. is-old k (λ q. omega arith) in
+            let less : (k : ℕ) → k < c → node_in (appended x n) k ≡ node_in x k = λ k l. is_old k (λ q. omega arith) in
             let z = node_in (appended x n) in
             ap (λ (j : ℕ). operand_right emitted_sorts z j (a_use (z j).op) (z j).a && operand_right emitted_sorts z j (b_use (z j).op) (z j).b) is
-            ∙ ap (λ (o : Node). operand_right emitted_sorts z c (a_use o.op) o.a && operand_right emitted_sorts z c (b_use o.op) o.b) is-new
+            ∙ ap (λ (o : Node). operand_right emitted_sorts z c (a_use o.op) o.a && operand_right emitted_sorts z c (b_use o.op) o.b) is_new
             ∙ and_intro _ _
             (operand_same (node_in x) z c (a_use n.op) n.a less ∙ may.a_right)
             (operand_same (node_in x) z c (b_use n.op) n.b less ∙ may.b_right)
         | inr e ↦ let other = eqb-false i c e in
-            operands_same (node_in x) (node_in (appended x n)) i (λ k l. is-old k (λ q. omega arith)) ∙ may.good.operands_right_holds i (omega arith)
+            operands_same (node_in x) (node_in (appended x n)) i (λ k l. is_old k (λ q. omega arith)) ∙ may.good.operands_right_holds i (omega arith)
       ]
 
   added : Added x (appended x n) (count x) n
@@ -237,26 +237,26 @@ module _ (x : List ℕ) (n : Node) (may : Addable x n) where
               size = size;
               signals = signals;
               names = names;
-              same = λ i l. is-old i (λ q. omega arith);
-              back = λ t l. back-same t (omega arith);
+              same = λ i l. is_old i (λ q. omega arith);
+              back = λ t l. back_same t (omega arith);
               good =
                   record {
                     long = omega arith;
-                    rest = rest-is ∙ rw nodes;
-                    version = version-is;
-                    kind = kind-is;
+                    rest = rest_is ∙ rw nodes;
+                    version = version_is;
+                    kind = kind_is;
                     some_signals = omega (arith, g.some_signals);
                     few_signals = omega (arith, g.few_signals);
                     few_names = omega (arith, g.few_names);
                     no_clauses = ap (λ (g : Header). g.clauses) h;
                     few_nodes = omega arith;
-                    nodes_right_holds = λ i l. rw (signals, names) (node-right i (omega arith));
-                    operands_right_holds = λ i l. operand-right i (omega arith);
+                    nodes_right_holds = λ i l. rw (signals, names) (node_right_lem i (omega arith));
+                    operands_right_holds = λ i l. operand_right_lem i (omega arith);
                   };
             };
         exact = nodes;
         place = refl;
-        node = is-new;
+        node = is_new;
       }
 
 -- a node that fits, in numbers

@@ -78,12 +78,12 @@ module _ (s x y : List ℕ) (blank : x ≡ replicate least_output 0) where
       omega (arith, simp length-take at long, t.size, blank_length x blank)
   formula_small (Refused number) t = omega (arith, number_told t, same, sheet_small s)
 
-  pub formula-fits : (a : WriteAnswer) → Translated s x y a → (length y ≡ least_output) × SmallAnswer a
-  formula-fits a t = (t.size ∙ blank_length x blank, formula_small a t)
+  pub formula_fits : (a : WriteAnswer) → Translated s x y a → (length y ≡ least_output) × SmallAnswer a
+  formula_fits a t = (t.size ∙ blank_length x blank, formula_small a t)
 
-  pub formula-output : (a : WriteAnswer) → Translated s x y a → OutputOf s (output_of y a)
+  pub formula_output : (a : WriteAnswer) → Translated s x y a → OutputOf s (output_of y a)
   unfolding output_of write_number written_length
-  formula-output (Written size) t =
+  formula_output (Written size) t =
       let none : translate_refusal s (length x) ≡ 0 = sym (number_told t) in
       record {
         inside = omega (arith, formula_small (Written size) t, t.size, blank_length x blank);
@@ -91,7 +91,7 @@ module _ (s x y : List ℕ) (blank : x ≡ replicate least_output 0) where
         formula = λ h. t.formula none;
         later = t.later none ∙ ap (drop size) blank;
       }
-  formula-output (Refused number) t =
+  formula_output (Refused number) t =
       let known : number ≡ sheet_refusal s = number_told t ∙ same in
       let some : sheet_refusal s ≡ 0 → ⊥ = λ h. not_empty s y (t.formula (same ∙ h)) in
       let line = line_in y number (t.size ∙ blank_length x blank) (formula_small (Refused number) t) in
@@ -104,20 +104,20 @@ module _ (s x y : List ℕ) (blank : x ≡ replicate least_output 0) where
 
 -- ---- typed sheets
 module _ (text x y : List ℕ) (blank : x ≡ replicate least_output 0) where
-  pub sheet-fits : (a : WriteAnswer) → ReadText text x y a → (length y ≡ least_output) × SmallAnswer a
-  sheet-fits (Written size) p =
+  pub sheet_fits : (a : WriteAnswer) → ReadText text x y a → (length y ≡ least_output) × SmallAnswer a
+  sheet_fits (Written size) p =
       let fits = written_fits text x y size p in
       (fits.same_length ∙ blank_length x blank, omega (arith, fits.long))
-  sheet-fits (Refused number) p =
+  sheet_fits (Refused number) p =
       let small = refused_small text x y number p in
       (ap length small.1 ∙ blank_length x blank, omega (arith, small.0))
 
   answered : (a : WriteAnswer) (out : List ℕ) → ReadText text x y a → out ≡ said_for y a → Answered text out
   answered a out p e = record { lent = y; answer = a; read = subst (λ (x : List ℕ). ReadText text x y a) blank p; written = e }
 
-  pub sheet-output : (a : WriteAnswer) → length text ≤ most_text → ReadText text x y a → SheetOutput text (output_of y a)
+  pub sheet_output : (a : WriteAnswer) → length text ≤ most_text → ReadText text x y a → SheetOutput text (output_of y a)
   unfolding output_of said_for
-  sheet-output (Written size) short p =
+  sheet_output (Written size) short p =
       let fits = written_fits text x y size p in
       record {
         inside = omega (arith, fits.long, fits.room, fits.same_length);
@@ -125,7 +125,7 @@ module _ (text x y : List ℕ) (blank : x ≡ replicate least_output 0) where
         unread = λ long. absurd (omega arith);
         later = fits.later ∙ ap (drop size) blank;
       }
-  sheet-output (Refused number) short p =
+  sheet_output (Refused number) short p =
       let small = refused_small text x y number p in
       let line = line_in y number (ap length small.1 ∙ blank_length x blank) (omega (arith, small.0)) in
       record {

@@ -6,7 +6,7 @@ use native.Mathlib.Omega.{arith}
 use borrow.Author.Tests.{eq-eqb, ne_eqb}
 use lib.ListN.{length, get_or, drop, drop_of_length-le}
 use Rattle.stored.specs.Tree.{pick}
-use Rattle.stored.proofs.Rules.{length-inOrder}
+use Rattle.stored.proofs.Rules.{length_in_order}
 use Rattle.checker.specs.declared.check.Finding.{Finding}
 use Rattle.checker.specs.declared.check.Finding.TheVariants.{Excused, Broken, Holds}
 use Rattle.checker.specs.declared.check.Verdict.{Verdict}
@@ -61,7 +61,7 @@ table_text_lem rows number e = rw (eq-eqb number 0 e)
 
 pub table_length : (rows : List ℕ) → length (table_text rows) ≡ 1088
 unfolding table_text
-table_length rows = length-inOrder 1088 (table_byte rows)
+table_length rows = length_in_order 1088 (table_byte rows)
 
 -- a text as long as its array is the array
 pub padded_whole : (n : ℕ) (l : List ℕ) → length l ≡ n → padded n l ≡ l

@@ -75,8 +75,8 @@ module _ {op joiner : ℕ} {K T K₁ T₁ : Type 0} {about : K → State} {has :
   module _ {y : List ℕ} {got : Got} (closes : Closes about has puts Taken₁ room text at x count y got)
       {found : Leaf} (leafs : Leafs (sign_of joiner) (sign joiner) text got.ok got.at found) where
     -- it is not there
-    pub chain-ends : found.ok ≡ false → Closes about has puts Taken room text at x count y got
-    chain-ends isnt =
+    pub chain_ends : found.ok ≡ false → Closes about has puts Taken room text at x count y got
+    chain_ends isnt =
         record {
           reads = closes.reads;
           stops = λ ok k n ts taken there. elim (chain.taken n taken) [
@@ -93,8 +93,8 @@ module _ {op joiner : ℕ} {K T K₁ T₁ : Type 0} {about : K → State} {has :
 
     -- it is there
     module _ (is : found.ok ≡ true) where
-      pub chain-ready : Ready text at x count → Ready text found.at y got.count
-      chain-ready ready =
+      pub chain_ready : Ready text at x count → Ready text found.at y got.count
+      chain_ready ready =
           let w = closes.reads.took (leafs.well is) in
           record {
             area = closes.reads.size ∙ ready.area;
@@ -104,9 +104,9 @@ module _ {op joiner : ℕ} {K T K₁ T₁ : Type 0} {about : K → State} {has :
 
       -- an operand after the joiner
       module _ {z : List ℕ} {second : Got} (closes₁ : Closes about₁ has₁ puts₁ Taken₁ room text found.at y got.count z second) where
-        pub chain-joinable : Ready text at x count → length text < 18446744073709551615 → Joinable op (got.count - 1) second z
-        chain-joinable ready long =
-            let again = chain-ready ready in
+        pub chain_joinable : Ready text at x count → length text < 18446744073709551615 → Joinable op (got.count - 1) second z
+        chain_joinable ready long =
+            let again = chain_ready ready in
             record {
               area = closes₁.reads.size ∙ again.area;
               op_fits = chain.op_fits;
@@ -115,9 +115,9 @@ module _ {op joiner : ℕ} {K T K₁ T₁ : Type 0} {about : K → State} {has :
             }
 
         -- both with the joiner's node
-        pub chain-turn : {w : List ℕ} {r : Got} → JoinPut op (got.count - 1) second z w r → Closes about has puts Taken₁ room text at x count w r
+        pub chain_turn : {w : List ℕ} {r : Got} → JoinPut op (got.count - 1) second z w r → Closes about has puts Taken₁ room text at x count w r
         unfolding put_joined last
-        chain-turn {w} {r} joins =
+        chain_turn {w} {r} joins =
             record {
               reads =
                   record {
@@ -180,9 +180,9 @@ module _ {op joiner : ℕ} {K T K₁ T₁ : Type 0} {about : K → State} {has :
     {about₁ : K₁ → State} {has₁ : K₁ → T₁ → State} {puts₁ : T₁ → Draft → Draft} {Taken₁ : ℕ → Type 0}
     (chain : Chain op joiner about has puts Taken about₁ has₁ puts₁ Taken₁)
     {room : ℕ} {text : List ℕ} {at count : ℕ} {y₀ : List ℕ} {got₀ : Got} where
-  pub turns-start : {found : Leaf} → Leafs (sign_of joiner) (sign joiner) text got₀.ok got₀.at found
+  pub turns_start : {found : Leaf} → Leafs (sign_of joiner) (sign joiner) text got₀.ok got₀.at found
       → Turns joiner about has puts Taken₁ room text at count y₀ got₀ y₀ got₀ found
-  turns-start leafs = record { closes = λ x c. c; sign = leafs; size = refl }
+  turns_start leafs = record { closes = λ x c. c; sign = leafs; size = refl }
 
   -- A turn: the joiner was there, a second operand was read, the joiner's node was put over `first`, and a joiner was looked for again.
   module _ {y : List ℕ} {got : Got} {found : Leaf} (turns : Turns joiner about has puts Taken₁ room text at count y₀ got₀ y got found)
@@ -190,17 +190,17 @@ module _ {op joiner : ℕ} {K T K₁ T₁ : Type 0} {about : K → State} {has :
       (closes₁ : Closes about₁ has₁ puts₁ Taken₁ room text found.at y got.count z second)
       {first : ℕ} (last-first : first ≡ got.count - 1) {w : List ℕ} {r : Got} (joins : JoinPut op first second z w r)
       {again : Leaf} (leafs : Leafs (sign_of joiner) (sign joiner) text r.ok r.at again) where
-    pub turns-again : Turns joiner about has puts Taken₁ room text at count y₀ got₀ w r again
-    turns-again =
+    pub turns_again : Turns joiner about has puts Taken₁ room text at count y₀ got₀ w r again
+    turns_again =
         record {
           closes = λ x c.
-              chain-turn chain (turns.closes x c) turns.sign is closes₁ (rw last-first at joins);
+              chain_turn chain (turns.closes x c) turns.sign is closes₁ (rw last-first at joins);
           sign = leafs;
           size = joins.size ∙ closes₁.reads.size ∙ turns.size;
         }
 
-    pub turns-less : left text again < left text found
-    turns-less =
+    pub turns_less : left text again < left text found
+    turns_less =
         rw is (fewer text found.at again.ok again.at
         (λ ok. let u = closes₁.reads.took (sym joins.ok ∙ leafs.well ok) in omega (arith, u.onward, joins.at, leafs.onward ok))
         (λ ok. leafs.within ok))
@@ -212,13 +212,13 @@ module _ {op joiner : ℕ} {K T K₁ T₁ : Type 0} {about : K → State} {has :
     now = turns.closes x (chain_first chain closes₀)
 
     -- before a second operand, before its node, and after the loop
-    pub turns-ready : Ready text at x count → found.ok ≡ true → Ready text found.at y got.count
-    turns-ready ready is = chain-ready chain now turns.sign is ready
+    pub turns_ready : Ready text at x count → found.ok ≡ true → Ready text found.at y got.count
+    turns_ready ready is = chain_ready chain now turns.sign is ready
 
-    pub turns-joinable : Ready text at x count → length text < 18446744073709551615 → found.ok ≡ true → {z : List ℕ} {second : Got}
+    pub turns_joinable : Ready text at x count → length text < 18446744073709551615 → found.ok ≡ true → {z : List ℕ} {second : Got}
         → Closes about₁ has₁ puts₁ Taken₁ room text found.at y got.count z second → {first : ℕ} → first ≡ got.count - 1
         → Joinable op first second z
-    turns-joinable ready long is closes₁ e = rw e (chain-joinable chain now turns.sign is closes₁ ready long)
+    turns_joinable ready long is closes₁ e = rw e (chain_joinable chain now turns.sign is closes₁ ready long)
 
-    pub turns-end : found.ok ≡ false → Closes about has puts Taken room text at x count y got
-    turns-end isnt = chain-ends chain now turns.sign isnt
+    pub turns_end : found.ok ≡ false → Closes about has puts Taken room text at x count y got
+    turns_end isnt = chain_ends chain now turns.sign isnt

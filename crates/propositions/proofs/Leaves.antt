@@ -19,7 +19,7 @@ use Rattle.grammar.proofs.Room.{stuck_none}
 use Rattle.lexer.specs.declared.Lexed.{Lexed}
 use Rattle.lexer.specs.declared.Token.{Token as Told}
 use Rattle.lexer.specs.Lexed.{meant, is_end, Bounded, Next}
-use Rattle.lexer.proofs.Read.{token-told, end-told}
+use Rattle.lexer.proofs.Read.{token_told, end_told}
 use Rattle.propositions.specs.declared.leaf.Leaf.{Leaf}
 use Rattle.propositions.specs.declared.leaf.Lexeme.{Lexeme}
 use Rattle.propositions.specs.Lexemes.{token_as, Lexes, Opens, is_word, Awaits, awaited, word_from, WordRead}
@@ -45,10 +45,10 @@ lexes_not isnt =
 
 -- what the lexer told
 module _ {text : List ℕ} {ok : Bool} {at : ℕ} (well : ok ≡ true) {read : Lexed} (next : Next text at read) where
-  pub lexes-told : (t : Told) (tag value : ℕ) → read.token ≡ t → is_end t ≡ false → tag ≤ 4 → meant t ≡ token_as tag value
+  pub lexes_told : (t : Told) (tag value : ℕ) → read.token ≡ t → is_end t ≡ false → tag ≤ 4 → meant t ≡ token_as tag value
       → (tag < 4 → Bounded t → Small (token_as tag value)) → Lexes text ok at (lexeme tag value read.at)
-  lexes-told t tag value e goes known same small =
-      let told = token-told text at read next t e goes in
+  lexes_told t tag value e goes known same small =
+      let told = token_told text at read next t e goes in
       record {
         well = λ h. well;
         told = λ _. inl (told.0 ∙ ap (λ t. t ∷ ahead text read.at) same, known);
@@ -57,11 +57,11 @@ module _ {text : List ℕ} {ok : Bool} {at : ℕ} (well : ok ≡ true) {read : L
         within = λ h. next.within;
       }
 
-  pub lexes-end : (value : ℕ) → is_end read.token ≡ true → Lexes text ok at (lexeme 5 value read.at)
-  lexes-end value e =
+  pub lexes_end : (value : ℕ) → is_end read.token ≡ true → Lexes text ok at (lexeme 5 value read.at)
+  lexes_end value e =
       record {
         well = λ h. well;
-        told = λ _. inr ((end-told text at read next e).0, refl);
+        told = λ _. inr ((end_told text at read next e).0, refl);
         small = λ h. absurd (omega arith);
         onward = λ h. absurd (omega arith);
         within = λ h. absurd (omega arith);
@@ -127,24 +127,24 @@ comparison_sign_lem (suc (suc (suc (suc (suc q))))) h = absurd (omega arith)
 
 -- what is made of a token
 module _ {text : List ℕ} {ok : Bool} {at : ℕ} {r : Lexeme} (lexes : Lexes text ok at r) where
-  pub next-token : r.tag < 4 → ahead text at ≡ token_as r.tag r.value ∷ ahead text r.at
-  next-token h = elim (lexes.told (lexes.well h)) [
+  pub next_token : r.tag < 4 → ahead text at ≡ token_as r.tag r.value ∷ ahead text r.at
+  next_token h = elim (lexes.told (lexes.well h)) [
     | inl e ↦ e.0
     | inr w ↦ absurd (let five = w.1 in omega arith)
   ]
 
   -- a token that cannot come next, where the text may not end either
-  pub lexed-none : ok ≡ true → (s : State) → (ahead text at ≡ [] → answer s ≡ none) → step s (token_as r.tag r.value) ≡ failed → (room : ℕ)
+  pub lexed_none : ok ≡ true → (s : State) → (ahead text at ≡ [] → answer s ≡ none) → step s (token_as r.tag r.value) ≡ failed → (room : ℕ)
       → answer (run room s (ahead text at)) ≡ none
   unfolding run
-  lexed-none well s unended stuck room = elim (lexes.told well) [
+  lexed_none well s unended stuck room = elim (lexes.told well) [
     | inl e ↦ ap (λ ts. answer (run room s ts)) e.0 ∙ stuck_none room s (token_as r.tag r.value) (ahead text r.at) stuck
     | inr w ↦ ap (λ ts. answer (run room s ts)) w.0 ∙ unended w.0
   ]
 
   -- the token that comes next
-  lexed-is : ok ≡ true → (t : Token) (ts : List Token) → ahead text at ≡ t ∷ ts → token_as r.tag r.value ≡ t
-  lexed-is well t ts there = elim (lexes.told well) [
+  lexed_is : ok ≡ true → (t : Token) (ts : List Token) → ahead text at ≡ t ∷ ts → token_as r.tag r.value ≡ t
+  lexed_is well t ts there = elim (lexes.told well) [
     | inl e ↦ let same : token_as r.tag r.value ∷ ahead text r.at ≡ t ∷ ts = sym e.0 ∙ there in cc
     | inr w ↦ absurd (let none_left : [] ≡ t ∷ ts = sym w.0 ∙ there in let z : ◌≡◌ {A = ℕ} 0 1 = cc in omega arith)
   ]
@@ -158,42 +158,42 @@ module _ {text : List ℕ} {ok : Bool} {at : ℕ} {r : Lexeme} (lexes : Lexes te
   leafs token about found value is unended other =
       record {
         well = λ e. lexes.well (is e).0;
-        next = λ e. next-token (is e).0 ∙ ap (λ t. t ∷ ahead text r.at) (is e).1;
+        next = λ e. next_token (is e).0 ∙ ap (λ t. t ∷ ahead text r.at) (is e).1;
         small = λ e. rw (is e).1 at (lexes.small (is e).0);
         onward = λ e. lexes.onward (is e).0;
         within = λ e. lexes.within (is e).0;
-        fails = λ well e room k. lexed-none well (about k) (λ end. unended end k) (other e k) room;
-        stuck = λ well e k t ts there. ap (step (about k)) (sym (lexed-is well t ts there)) ∙ other e k;
+        fails = λ well e room k. lexed_none well (about k) (λ end. unended end k) (other e k) room;
+        stuck = λ well e k t ts there. ap (step (about k)) (sym (lexed_is well t ts there)) ∙ other e k;
       }
 
   -- both a word or sign and this one
-  pub sign-yes : (wanted : ℕ) → eqb r.tag 0 && eqb r.value wanted ≡ true
+  pub sign_yes : (wanted : ℕ) → eqb r.tag 0 && eqb r.value wanted ≡ true
       → (r.tag < 4) × (token_as r.tag r.value ≡ plain wanted)
   unfolding token_as
-  sign-yes wanted e =
+  sign_yes wanted e =
       let tag = eqb-true r.tag 0 (and_left (eqb r.tag 0) (eqb r.value wanted) e) in
       let value = eqb-true r.value wanted (and_right (eqb r.tag 0) (eqb r.value wanted) e) in
       (omega arith, rw (tag, value))
 
-  pub sign-leafs : (wanted : ℕ) → Leafs (sign_of wanted) (sign wanted) text ok at (leaf (eqb r.tag 0 && eqb r.value wanted) r.at r.value)
+  pub sign_leafs : (wanted : ℕ) → Leafs (sign_of wanted) (sign wanted) text ok at (leaf (eqb r.tag 0 && eqb r.value wanted) r.at r.value)
   unfolding computing
-  sign-leafs wanted = leafs (sign_of wanted) (sign wanted) _ r.value (sign-yes wanted) (λ _ k. refl) (sign_no r.tag r.value wanted)
+  sign_leafs wanted = leafs (sign_of wanted) (sign wanted) _ r.value (sign_yes wanted) (λ _ k. refl) (sign_no r.tag r.value wanted)
 
-  pub number-leafs : Leafs number a_number text ok at (leaf (eqb r.tag 3) r.at r.value)
+  pub number_leafs : Leafs number a_number text ok at (leaf (eqb r.tag 3) r.at r.value)
   unfolding computing token_as
-  number-leafs =
+  number_leafs =
       leafs number a_number _ r.value (λ e. let tag = eqb-true r.tag 3 e in (omega arith, rw tag)) (λ _ k. refl)
       (number_no r.tag r.value)
 
-  pub name-leafs : Leafs named a_name text ok at (leaf (eqb r.tag 2) r.at r.value)
+  pub name_leafs : Leafs named a_name text ok at (leaf (eqb r.tag 2) r.at r.value)
   unfolding computing token_as
-  name-leafs =
+  name_leafs =
       leafs named a_name _ r.value (λ e. let tag = eqb-true r.tag 2 e in (omega arith, rw tag)) (λ _ k. refl)
       (name_no r.tag r.value)
 
-  pub signal-leafs : Leafs signalled a_signal text ok at (leaf (eqb r.tag 1) r.at r.value)
+  pub signal_leafs : Leafs signalled a_signal text ok at (leaf (eqb r.tag 1) r.at r.value)
   unfolding computing token_as
-  signal-leafs =
+  signal_leafs =
       leafs signalled a_signal _ r.value (λ e. let tag = eqb-true r.tag 1 e in (omega arith, rw tag)) (λ _ k. refl)
       (signal_no r.tag r.value)
 
@@ -207,10 +207,10 @@ module _ {text : List ℕ} {ok : Bool} {at : ℕ} {r : Lexeme} (lexes : Lexes te
         leb-true r.value high (and_right (leb low r.value) (leb r.value high) ends),
       )
 
-  pub word-there : (low high : ℕ) → eqb r.tag 0 && (leb low r.value && leb r.value high) ≡ true
+  pub word_there : (low high : ℕ) → eqb r.tag 0 && (leb low r.value && leb r.value high) ≡ true
       → WordRead low high text ok at (leaf true r.at (r.value - low))
   unfolding token_as
-  word-there low high e =
+  word_there low high e =
       let w = in_range low high e in
       let low' = w.1 in
       let high' = w.2 in
@@ -222,9 +222,9 @@ module _ {text : List ℕ} {ok : Bool} {at : ℕ} {r : Lexeme} (lexes : Lexes te
         range = omega arith;
       }
 
-  pub word-absent : (low high : ℕ) → eqb r.tag 0 && (leb low r.value && leb r.value high) ≡ false
+  pub word_absent : (low high : ℕ) → eqb r.tag 0 && (leb low r.value && leb r.value high) ≡ false
       → WordRead low high text ok at (leaf false r.at 0)
-  word-absent low high e =
+  word_absent low high e =
       record {
         leaf =
             leafs (word_from low) awaited false 0 (λ is. absurd (true≢false (sym is))) (λ end k. k.unended end)

@@ -13,13 +13,13 @@ use lib.ListN.{length}
 use Rattle.semantics.proofs.Tests.{test, and_left, and_right}
 use Rattle.stored.specs.Written.{NodeFits}
 use Rattle.grammar.specs.Token.{Token, plain, signalled, named, number, outside, true_word, false_word, open_round, close_round, or_sign, and_sign, not_sign}
-use Rattle.grammar.specs.Tree.{OrP, oneP, orP, unitP, andP, UnitP, trueP, falseP, signalP, nameP, notP, bracketP}
+use Rattle.grammar.specs.Tree.{OrP, one_p, or_p, unit_p, and_p, UnitP, trueP, falseP, signalP, nameP, not_p, bracket_p}
 use Rattle.grammar.specs.Reader.{no_or_p, after_or_p, no_and_p, after_and_p, HoleP, no_not_p, after_not_p, after_nots, nots}
 use Rattle.grammar.specs.Reader.{State, failed, sign, about_or_p, has_or_p, about_unit_p, has_unit_p, step, run, answer}
 use Rattle.grammar.proofs.Said.{computing, fill_nots}
 use Rattle.grammar.proofs.Room.{stuck_none}
-use Rattle.grammar.proofs.Next.{or_p, and_p, no_piece_p}
-use Rattle.typed.specs.Draft.{Draft, draft, added, last, node, put, put_over, putOrP, putAndP, putUnitP}
+use Rattle.grammar.proofs.Next.{or_p_lem, and_p_lem, no_piece_p}
+use Rattle.typed.specs.Draft.{Draft, draft, added, last, node, put, put_over, put_or_p, put_and_p, put_unit_p}
 use Rattle.propositions.specs.declared.Got.{Got}
 use Rattle.propositions.specs.declared.leaf.Leaf.{Leaf}
 use Rattle.propositions.specs.declared.leaf.Lexeme.{Lexeme}
@@ -31,54 +31,54 @@ use Rattle.propositions.specs.Propositions.{about_both, has_both, ByAnd, ByOr, a
 use Rattle.propositions.specs.Propositions.{put_nots, Negatable, Negated, piece_of, piece_node, SinglePut}
 use Rattle.propositions.specs.Reads.{ahead, Small, sign_of, Leafs, Ready, Reads, Closes, before_p, next, after}
 use Rattle.propositions.proofs.Chains.{Chain, counted}
-use Rattle.propositions.proofs.Leaves.{next-token, lexed-none, sign-yes, no_sign}
-use Rattle.propositions.proofs.Went.{reads-told, told_bracket}
+use Rattle.propositions.proofs.Leaves.{next_token, lexed_none, sign_yes, no_sign}
+use Rattle.propositions.proofs.Went.{reads_told, told_bracket}
 
 -- ---- the chains
 abbrev pub ByNone : ℕ → Type 0
 ByNone n = ⊥
 
-pub or_chain : Chain 7 or_sign about_or_p has_or_p putOrP ByOr about_both has_both putAndP ByAnd
-unfolding computing putOrP
+pub or_chain : Chain 7 or_sign about_or_p has_or_p put_or_p ByOr about_both has_both put_and_p ByAnd
+unfolding computing put_or_p
 or_chain =
     record {
       op_fits = omega arith;
       taken = λ n t. t;
       passes = λ room s ts. refl;
       first = λ k. (no_or_p, k);
-      single = oneP;
+      single = one_p;
       first_about = λ k. refl;
       first_has = λ k t. refl;
       first_puts = λ t d. refl;
       next = λ k p. (after_or_p p, k);
-      joined = orP;
-      next_about = or_p;
+      joined = or_p;
+      next_about = or_p_lem;
       next_has = λ k p q. refl;
       next_puts = λ p q d. refl;
     }
 
-pub and_chain : Chain 6 and_sign about_both has_both putAndP ByAnd about_unit has_unit putUnitP ByNone
-unfolding computing putAndP
+pub and_chain : Chain 6 and_sign about_both has_both put_and_p ByAnd about_unit has_unit put_unit_p ByNone
+unfolding computing put_and_p
 and_chain =
     record {
       op_fits = omega arith;
       taken = λ n t. inl t;
       passes = λ room s ts. refl;
       first = λ w. (no_not_p (no_and_p w.0), w.1);
-      single = unitP;
+      single = unit_p;
       first_about = λ w. refl;
       first_has = λ w t. refl;
       first_puts = λ t d. refl;
       next = λ w q. (no_not_p (after_and_p w.0 q), w.1);
-      joined = andP;
-      next_about = λ room w q ts. and_p room w.0 w.1 q ts;
+      joined = and_p;
+      next_about = λ room w q ts. and_p_lem room w.0 w.1 q ts;
       next_has = λ w q u. refl;
       next_puts = λ q u d. refl;
     }
 
 -- a piece takes no joiner
 pub unit_closes : {room : ℕ} {text : List ℕ} {at : ℕ} {x : List ℕ} {count : ℕ} {y : List ℕ} {r : Got}
-    → Reads about_unit has_unit putUnitP room text at x count y r → Closes about_unit has_unit putUnitP ByNone room text at x count y r
+    → Reads about_unit has_unit put_unit_p room text at x count y r → Closes about_unit has_unit put_unit_p ByNone room text at x count y r
 unit_closes reads = record { reads = reads; stops = λ ok k n ts never there. absurd never }
 
 -- ---- what comes after a whole proposition
@@ -105,7 +105,7 @@ settled room n s p (plain m ∷ ts) closing stops =
     stopped joiner = stops m ts joiner refl ∙ sym (stuck_none room (sign n (s p)) (plain m) ts (rw (apart joiner)))
 
 pub whole_reads : {room : ℕ} {text : List ℕ} {at : ℕ} {x : List ℕ} {count : ℕ} {y : List ℕ} {r : Got}
-    → Closes about_or_p has_or_p putOrP ByOr room text at x count y r → Reads before_p after putOrP room text at x count y r
+    → Closes about_or_p has_or_p put_or_p ByOr room text at x count y r → Reads before_p after put_or_p room text at x count y r
 whole_reads {room = room} {text = text} {r = r} closes =
     record {
       took = λ ok. let w = closes.reads.took ok in
@@ -145,10 +145,10 @@ module _ {text : List ℕ} {at : ℕ} where
   passed_none inside looked = record { goes = λ room h k. refl; taken = omega arith; inside = inside; looked = looked }
 
   module _ {count place : ℕ} {next : Leaf} (passed : Passed text at count place next) where
-    pub passed-more : {again : Leaf} → next.ok ≡ true → Leafs (sign_of not_sign) (sign not_sign) text true next.at again
+    pub passed_more : {again : Leaf} → next.ok ≡ true → Leafs (sign_of not_sign) (sign not_sign) text true next.at again
         → Passed text at (count + 1) next.at again
     unfolding after_nots
-    passed-more is looked =
+    passed_more is looked =
         record {
           goes = λ room h k.
               rw add-one
@@ -159,15 +159,15 @@ module _ {text : List ℕ} {at : ℕ} where
           looked = looked;
         }
 
-    pub passed-all : next.ok ≡ false → Nots text at (record { count = count; at = place })
-    passed-all isnt =
+    pub passed_all : next.ok ≡ false → Nots text at (record { count = count; at = place })
+    passed_all isnt =
         record { goes = passed.goes; taken = passed.taken; inside = λ _. passed.inside; bare = no_sign not_sign passed.looked isnt }
 
 -- ---- ! put over a piece
-nots_put : (n : ℕ) (u : UnitP) (d : Draft) → putUnitP (nots n u) d ≡ put_nots n (putUnitP u d)
-unfolding nots put_nots putUnitP
+nots_put : (n : ℕ) (u : UnitP) (d : Draft) → put_unit_p (nots n u) d ≡ put_nots n (put_unit_p u d)
+unfolding nots put_nots put_unit_p
 nots_put zero u d = refl
-nots_put (suc n) u d = nots_put n (notP u) d
+nots_put (suc n) u d = nots_put n (not_p u) d
 
 nots_count : (n : ℕ) (d : Draft) → (put_nots n d).count ≡ d.count + n
 unfolding put_nots put_over put added
@@ -184,22 +184,22 @@ pub record Putting (signs : ℕ) (y₀ : List ℕ) (got₀ : Got) (y : List ℕ)
   pub size : length y ≡ length y₀
 
 module _ {signs : ℕ} {y₀ : List ℕ} {got₀ : Got} where
-  pub putting-all : Negatable got₀ signs y₀ → Putting signs y₀ got₀ y₀ got₀ signs
-  putting-all may = record { ok = refl; at = refl; drafted = λ _. refl; room = may.counted; area = may.area; size = refl }
+  pub putting_all : Negatable got₀ signs y₀ → Putting signs y₀ got₀ y₀ got₀ signs
+  putting_all may = record { ok = refl; at = refl; drafted = λ _. refl; room = may.counted; area = may.area; size = refl }
 
   module _ {y : List ℕ} {got : Got} {left : ℕ} (putting : Putting signs y₀ got₀ y got left) where
-    pub putting-fits : 0 < left → Puttable got (node 5 0 (got.count - 1) 0) y
-    putting-fits some =
+    pub putting_fits : 0 < left → Puttable got (node 5 0 (got.count - 1) 0) y
+    putting_fits some =
         record {
           area = putting.area;
           counted = λ ok. omega (arith, putting.room (sym putting.ok ∙ ok));
           fits = λ ok few. record { op_fits = omega arith; q_fits = omega arith; a_fits = omega arith; b_fits = omega arith };
         }
 
-    pub putting-one : {z : List ℕ} {r : Got} → 0 < left → NodePut got (node 5 0 (got.count - 1) 0) y z r
+    pub putting_one : {z : List ℕ} {r : Got} → 0 < left → NodePut got (node 5 0 (got.count - 1) 0) y z r
         → Putting signs y₀ got₀ z r (left - 1)
     unfolding put_nots put_over last
-    putting-one {z} {r} some p =
+    putting_one {z} {r} some p =
         record {
           ok = p.ok ∙ putting.ok;
           at = p.at ∙ putting.at;
@@ -212,9 +212,9 @@ module _ {signs : ℕ} {y₀ : List ℕ} {got₀ : Got} where
           size = p.size ∙ putting.size;
         }
 
-    pub putting-done : left ≤ 0 → Negated got₀ signs y₀ y got
+    pub putting_done : left ≤ 0 → Negated got₀ signs y₀ y got
     unfolding put_nots
-    putting-done none_left =
+    putting_done none_left =
         record {
           ok = putting.ok;
           at = putting.at;
@@ -226,10 +226,10 @@ module _ {signs : ℕ} {y₀ : List ℕ} {got₀ : Got} where
 
 -- a piece and the ! before it
 module _ {text : List ℕ} {at : ℕ} {signs : Signs} (passed : Nots text at signs) {x : List ℕ} {count : ℕ} where
-  pub bare-ready : Ready text at x count → Ready text signs.at x count
-  bare-ready ready = record { area = ready.area; inside = passed.inside ready.inside; taken = omega (arith, ready.taken, passed.taken) }
+  pub bare_ready : Ready text at x count → Ready text signs.at x count
+  bare_ready ready = record { area = ready.area; inside = passed.inside ready.inside; taken = omega (arith, ready.taken, passed.taken) }
 
-  module _ {room : ℕ} {y : List ℕ} {got : Got} (reads : Reads about_unit has_unit putUnitP room text signs.at x count y got) where
+  module _ {room : ℕ} {y : List ℕ} {got : Got} (reads : Reads about_unit has_unit put_unit_p room text signs.at x count y got) where
     pub negatable : length text < 18446744073709551615 → Ready text at x count → Negatable got signs.count y
     negatable long ready =
         record {
@@ -237,9 +237,9 @@ module _ {text : List ℕ} {at : ℕ} {signs : Signs} (passed : Nots text at sig
           counted = λ ok. let w = reads.took ok in omega (arith, w.taken, w.within, passed.taken, ready.taken);
         }
 
-    pub negated-reads : {z : List ℕ} {r : Got} → Negated got signs.count y z r → Reads about_unit has_unit putUnitP room text at x count z r
+    pub negated_reads : {z : List ℕ} {r : Got} → Negated got signs.count y z r → Reads about_unit has_unit put_unit_p room text at x count z r
     unfolding has_unit_p has_or_p answer
-    negated-reads {r = r} negated =
+    negated_reads {r = r} negated =
         record {
           took = λ ok.
               let w = reads.took (well ok) in
@@ -310,10 +310,10 @@ record IsPiece (tag value : ℕ) : Type 0 where
   pub tree : UnitP
   pub goes : (room : ℕ) (w : HoleP × (OrP → State)) (ts : List Token)
       → run room (about_unit w) (token_as tag value ∷ ts) ≡ run room (has_unit w tree) ts
-  pub puts : (d : Draft) → put (node (piece_of tag value).op 0 (piece_of tag value).a 0) d ≡ putUnitP tree d
+  pub puts : (d : Draft) → put (node (piece_of tag value).op 0 (piece_of tag value).a 0) d ≡ put_unit_p tree d
 
 is_piece : (tag value : ℕ) → eqb (piece_of tag value).op 0 ≡ false → IsPiece tag value
-unfolding computing piece_of token_as putUnitP
+unfolding computing piece_of token_as put_unit_p
 is_piece zero value e =
     elim (test (eqb value true_word)) [
       | inl t ↦
@@ -359,24 +359,24 @@ unfolding computing
 unended w = refl
 
 open_first : (w : HoleP × (OrP → State)) (room : ℕ) (ts : List Token)
-    → run room (about_unit w) (plain open_round ∷ ts) ≡ run room (about_bracket_p (λ p. has_unit w (bracketP p))) (plain open_round ∷ ts)
+    → run room (about_unit w) (plain open_round ∷ ts) ≡ run room (about_bracket_p (λ p. has_unit w (bracket_p p))) (plain open_round ∷ ts)
 unfolding computing
 open_first w room ts = refl
 
 -- the first token of a piece before which there is no !
 module _ {text : List ℕ} {at : ℕ} {first : Lexeme} (lexes : Lexes text true at first) where
-  bare-token : NoNot text at → first.tag ≡ 0 → first.value ≡ not_sign → ⊥
+  bare_token : NoNot text at → first.tag ≡ 0 → first.value ≡ not_sign → ⊥
   unfolding token_as
-  bare-token bare e₁ e₂ =
+  bare_token bare e₁ e₂ =
       let h : first.tag < 4 = omega (arith, e₁) in
-      bare (ahead text first.at) (next-token lexes h ∙ rw (e₁, e₂))
+      bare (ahead text first.at) (next_token lexes h ∙ rw (e₁, e₂))
 
   -- it is the whole piece, or none begins by it
-  pub single-piece : {room : ℕ} {x : List ℕ} {count : ℕ} {y : List ℕ} {r : Got} → NoNot text at
+  pub single_piece : {room : ℕ} {x : List ℕ} {count : ℕ} {y : List ℕ} {r : Got} → NoNot text at
       → eqb first.tag 0 && eqb first.value open_round ≡ false
-      → SinglePut first count x y r → Reads about_unit has_unit putUnitP room text at x count y r
+      → SinglePut first count x y r → Reads about_unit has_unit put_unit_p room text at x count y r
   unfolding answer
-  single-piece {room} {x} {count} {y} {r} bare shut puts =
+  single_piece {room} {x} {count} {y} {r} bare shut puts =
       record {
         took = λ ok.
             let is = sym puts.ok ∙ ok in
@@ -385,7 +385,7 @@ module _ {text : List ℕ} {at : ℕ} {first : Lexeme} (lexes : Lexes text true 
             record {
               tree = piece.tree;
               goes = λ w.
-                  ap (λ ts. answer (run room (about_unit w) ts)) (next-token lexes piece.known)
+                  ap (λ ts. answer (run room (about_unit w) ts)) (next_token lexes piece.known)
                   ∙ ap answer (piece.goes room w (ahead text first.at))
                   ∙ ap (λ at. answer (run room (has_unit w piece.tree) (ahead text at))) (sym puts.at);
               drafted = puts.drafted is ∙ piece.puts (draft x count);
@@ -395,43 +395,43 @@ module _ {text : List ℕ} {at : ℕ} {first : Lexeme} (lexes : Lexes text true 
               taken = omega (arith, one, lexes.onward piece.known, puts.at);
             };
         fails = λ ok w.
-            lexed-none lexes refl (about_unit w) (λ _. unended w)
-            (no_piece first.tag first.value (not-false _ (sym puts.ok ∙ ok)) (bare-token bare) shut w) room;
+            lexed_none lexes refl (about_unit w) (λ _. unended w)
+            (no_piece first.tag first.value (not-false _ (sym puts.ok ∙ ok)) (bare_token bare) shut w) room;
         size = puts.size;
       }
 
   -- it is an opening bracket
-  pub bracket-piece : {room : ℕ} {x : List ℕ} {count : ℕ} {y : List ℕ} {r : Got} → eqb first.tag 0 && eqb first.value open_round ≡ true
-      → Reads about_bracket_p next putOrP room text at x count y r → Reads about_unit has_unit putUnitP room text at x count y r
-  unfolding putUnitP
-  bracket-piece {room} opens reads =
+  pub bracket_piece : {room : ℕ} {x : List ℕ} {count : ℕ} {y : List ℕ} {r : Got} → eqb first.tag 0 && eqb first.value open_round ≡ true
+      → Reads about_bracket_p next put_or_p room text at x count y r → Reads about_unit has_unit put_unit_p room text at x count y r
+  unfolding put_unit_p
+  bracket_piece {room} opens reads =
       record {
         took = λ ok. let t = reads.took ok in
             record {
-              tree = bracketP t.tree;
-              goes = λ w. begins w ∙ t.goes (λ p. has_unit w (bracketP p));
+              tree = bracket_p t.tree;
+              goes = λ w. begins w ∙ t.goes (λ p. has_unit w (bracket_p p));
               drafted = t.drafted;
               onward = t.onward;
               within = t.within;
               more = t.more;
               taken = t.taken;
             };
-        fails = λ isnt w. begins w ∙ reads.fails isnt (λ p. has_unit w (bracketP p));
+        fails = λ isnt w. begins w ∙ reads.fails isnt (λ p. has_unit w (bracket_p p));
         size = reads.size;
       }
     where
       there : ahead text at ≡ plain open_round ∷ ahead text first.at
-      there = let is = sign-yes lexes open_round opens in next-token lexes is.0 ∙ ap (λ t. t ∷ ahead text first.at) is.1
+      there = let is = sign_yes lexes open_round opens in next_token lexes is.0 ∙ ap (λ t. t ∷ ahead text first.at) is.1
 
       begins : (w : HoleP × (OrP → State))
-          → answer (run room (about_unit w) (ahead text at)) ≡ answer (run room (about_bracket_p (λ p. has_unit w (bracketP p))) (ahead text at))
+          → answer (run room (about_unit w) (ahead text at)) ≡ answer (run room (about_bracket_p (λ p. has_unit w (bracket_p p))) (ahead text at))
       begins w =
           ap (λ ts. answer (run room (about_unit w) ts)) there ∙ ap answer (open_first w room (ahead text first.at))
-          ∙ ap (λ ts. answer (run room (about_bracket_p (λ p. has_unit w (bracketP p))) ts)) (sym there)
+          ∙ ap (λ ts. answer (run room (about_bracket_p (λ p. has_unit w (bracket_p p))) ts)) (sym there)
 
 -- a proposition in round brackets
 pub bracket_reads : {text : List ℕ} {at depth : ℕ} {x : List ℕ} {count : ℕ} {z : List ℕ} {opening closing : Leaf} {inner : Got}
-    → opening.ok ≡ true → Opens text at depth opening → Reads before_p after putOrP (depth - 1) text opening.at x count z inner
+    → opening.ok ≡ true → Opens text at depth opening → Reads before_p after put_or_p (depth - 1) text opening.at x count z inner
     → Leafs (sign_of close_round) (sign close_round) text inner.ok inner.at closing
-    → Reads about_bracket_p next putOrP depth text at x count z (record { ok = closing.ok; at = closing.at; count = inner.count })
-bracket_reads ok opened reads leaf = reads-told (told_bracket about_or_p (oneP (unitP trueP)) ok opened reads leaf) reads.size
+    → Reads about_bracket_p next put_or_p depth text at x count z (record { ok = closing.ok; at = closing.at; count = inner.count })
+bracket_reads ok opened reads leaf = reads_told (told_bracket about_or_p (one_p (unit_p trueP)) ok opened reads leaf) reads.size

@@ -140,8 +140,8 @@ module _ {K T : Type 0} {about : K → State} {has : K → T → State} {put : T
             taken = λ e'. absurd (true≢false (sym e' ∙ e));
           }
 
-  unfoldable pub reads-told : Told about has put room text at x count y r → length y ≡ length x → Reads about has put room text at x count y r
-  reads-told w size =
+  unfoldable pub reads_told : Told about has put room text at x count y r → length y ≡ length x → Reads about has put room text at x count y r
+  reads_told w size =
       record {
         took = λ e.
             record {
@@ -162,15 +162,15 @@ module _ {K T : Type 0} {about : K → State} {has : K → T → State} {put : T
       → Reads about has put room text at x count y r
   reads_none e fails size = record { took = λ e'. absurd (true≢false (sym e' ∙ e)); fails = λ _. fails; size = size }
 
-  pub closes-none : {Taken : ℕ → Type 0} → r.ok ≡ false → ((k : K) → answer (run room (about k) (ahead text at)) ≡ none) → length y ≡ length x
+  pub closes_none : {Taken : ℕ → Type 0} → r.ok ≡ false → ((k : K) → answer (run room (about k) (ahead text at)) ≡ none) → length y ≡ length x
       → Closes about has put Taken room text at x count y r
-  closes-none e fails size = record { reads = reads_none e fails size; stops = λ e'. absurd (true≢false (sym e' ∙ e)) }
+  closes_none e fails size = record { reads = reads_none e fails size; stops = λ e'. absurd (true≢false (sym e' ∙ e)) }
 
   -- the same, from an earlier state and place
-  pub closes-from : {Taken : ℕ → Type 0} {about' : K → State} {to : ℕ} → at ≤ to
+  pub closes_from : {Taken : ℕ → Type 0} {about' : K → State} {to : ℕ} → at ≤ to
       → ((k : K) → answer (run room (about k) (ahead text at)) ≡ answer (run room (about' k) (ahead text to)))
       → Closes about' has put Taken room text to x count y r → Closes about has put Taken room text at x count y r
-  closes-from onward goes closes =
+  closes_from onward goes closes =
       let reads = closes.reads in
       record {
         reads =
@@ -192,20 +192,20 @@ module _ {K T : Type 0} {about : K → State} {has : K → T → State} {put : T
       }
 
   -- the same, of which none of these signs can be read after it
-  pub closes-told : {Taken : ℕ → Type 0} (w : Told about has put room text at x count y r) → length y ≡ length x
+  pub closes_told : {Taken : ℕ → Type 0} (w : Told about has put room text at x count y r) → length y ≡ length x
       → (r.ok ≡ true → (k : K) (n : ℕ) (ts : List Token) → Taken n → ahead text r.at ≡ plain n ∷ ts
       → answer (run room (has k w.tree) (plain n ∷ ts)) ≡ none)
       → Closes about has put Taken room text at x count y r
-  unfolding reads-told
-  closes-told w size stops = record { reads = reads-told w size; stops = stops }
+  unfolding reads_told
+  closes_told w size stops = record { reads = reads_told w size; stops = stops }
 
   -- a piece that its last node ends
-  unfoldable told-put : {got : Got} {last : Node} {z : List ℕ} (t : T)
+  unfoldable told_put : {got : Got} {last : Node} {z : List ℕ} (t : T)
       → Went about room text at got.ok room got.at (λ k. has k t) → NodePut got last z y r
       → (got.ok ≡ true → put_node last (draft z got.count) ≡ put t (draft x count))
       → (got.ok ≡ true → (count ≤ got.count) × (got.count + at < count + got.at) × (at < got.at))
       → Told about has put room text at x count y r
-  told-put t w p same few =
+  told_put t w p same few =
       record {
         tree = t;
         went = rw (p.ok, p.at) w;
@@ -215,14 +215,14 @@ module _ {K T : Type 0} {about : K → State} {has : K → T → State} {put : T
         taken = λ e. let h = (few (sym p.ok ∙ e)).1 in omega (arith, put_counted_lem p (sym p.ok ∙ e), p.at);
       }
 
-  pub reads-put : {got : Got} {last : Node} {z : List ℕ} (t : T)
+  pub reads_put : {got : Got} {last : Node} {z : List ℕ} (t : T)
       → Went about room text at got.ok room got.at (λ k. has k t) → NodePut got last z y r
       → (got.ok ≡ true → put_node last (draft z got.count) ≡ put t (draft x count))
       → (got.ok ≡ true → (count ≤ got.count) × (got.count + at < count + got.at) × (at < got.at))
       → length y ≡ length x → Reads about has put room text at x count y r
-  reads-put t w p same few size = reads-told (told-put t w p same few) size
+  reads_put t w p same few size = reads_told (told_put t w p same few) size
 
-  pub closes-put : {Taken : ℕ → Type 0} {got : Got} {last : Node} {z : List ℕ} (t : T)
+  pub closes_put : {Taken : ℕ → Type 0} {got : Got} {last : Node} {z : List ℕ} (t : T)
       → Went about room text at got.ok room got.at (λ k. has k t) → NodePut got last z y r
       → (got.ok ≡ true → put_node last (draft z got.count) ≡ put t (draft x count))
       → (got.ok ≡ true → (count ≤ got.count) × (got.count + at < count + got.at) × (at < got.at))
@@ -230,16 +230,16 @@ module _ {K T : Type 0} {about : K → State} {has : K → T → State} {put : T
       → (r.ok ≡ true → (k : K) (n : ℕ) (ts : List Token) → Taken n → ahead text r.at ≡ plain n ∷ ts
       → answer (run room (has k t) (plain n ∷ ts)) ≡ none)
       → Closes about has put Taken room text at x count y r
-  unfolding told-put
-  closes-put t w p same few size stops = closes-told (told-put t w p same few) size stops
+  unfolding told_put
+  closes_put t w p same few size stops = closes_told (told_put t w p same few) size stops
 
   -- a piece of one node
-  pub reads-alone : {got : Got} {last : Node} (t : T) → got.count ≡ count
+  pub reads_alone : {got : Got} {last : Node} (t : T) → got.count ≡ count
       → Went about room text at got.ok room got.at (λ k. has k t) → NodePut got last x y r
       → (got.ok ≡ true → put_node last (draft x count) ≡ put t (draft x count)) → (got.ok ≡ true → at < got.at)
       → Reads about has put room text at x count y r
-  reads-alone {last = last} t one w p same onward =
-      reads-put t w p (λ e. ap (λ n. put_node last (draft x n)) one ∙ same e)
+  reads_alone {last = last} t one w p same onward =
+      reads_put t w p (λ e. ap (λ n. put_node last (draft x n)) one ∙ same e)
       (λ e. let h = onward e in (omega (arith, one), omega (arith, one), h)) p.size
 
 -- what was read in round brackets

@@ -1,4 +1,6 @@
 // Reads the tokens and propositions of a text, and writes the nodes of what was read.
+#![tactic(auto)]
+
 pub mod leaf;
 pub mod nodes;
 pub mod proposition;

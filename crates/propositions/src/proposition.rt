@@ -1,6 +1,6 @@
 // Propositions: | joins what & joins, & joins pieces, and any number of ! stands before a piece.
 ghost use Rattle.std.specs.Prelude.{◌≤◌, ◌≡◌, length};
-ghost use Rattle.typed.specs.Draft.{putOrP, putAndP, putUnitP};
+ghost use Rattle.typed.specs.Draft.{put_or_p, put_and_p, put_unit_p};
 ghost use Rattle.propositions.specs.Propositions.{about_both, has_both, ByAnd, about_unit, has_unit, about_bracket_p, NoNot, Nots};
 ghost use Rattle.propositions.specs.Propositions.{Negatable, Negated, piece_of, Single, SinglePut};
 ghost use Rattle.propositions.specs.Reads.{Ready, Reads, Closes, before_p, after, next};
@@ -110,7 +110,7 @@ fn single(first: Lexeme, nodes: &mut [u8], count: usize) -> Got
 #[cycle(atom_both_bracket_proposition_unit)]
 pub fn bracket(text: &[u8], at: usize, depth: usize, nodes: &mut [u8], count: usize) -> Got
     requires { Ready text.now at nodes.old count }
-    ensures { Reads about_bracket_p next putOrP depth text.now at nodes.old count nodes.new result }
+    ensures { Reads about_bracket_p next put_or_p depth text.now at nodes.old count nodes.new result }
 {
     let open = leaf::opened(text, at, depth);
     if !open.ok {
@@ -134,7 +134,7 @@ pub fn bracket(text: &[u8], at: usize, depth: usize, nodes: &mut [u8], count: us
 fn atom(text: &[u8], at: usize, depth: usize, nodes: &mut [u8], count: usize) -> Got
     requires ready { Ready text.now at nodes.old count }
     requires no_not { NoNot text.now at }
-    ensures { Reads about_unit has_unit putUnitP depth text.now at nodes.old count nodes.new result }
+    ensures { Reads about_unit has_unit put_unit_p depth text.now at nodes.old count nodes.new result }
 {
     let first = leaf::token(text, true, at);
     if (first.tag == leaf::PLAIN) & (first.value == OPEN_ROUND) {
@@ -147,7 +147,7 @@ fn atom(text: &[u8], at: usize, depth: usize, nodes: &mut [u8], count: usize) ->
 #[cycle(atom_both_bracket_proposition_unit)]
 fn unit(text: &[u8], at: usize, depth: usize, nodes: &mut [u8], count: usize) -> Got
     requires { Ready text.now at nodes.old count }
-    ensures { Reads about_unit has_unit putUnitP depth text.now at nodes.old count nodes.new result }
+    ensures { Reads about_unit has_unit put_unit_p depth text.now at nodes.old count nodes.new result }
 {
     let signs = nots(text, at);
     let got = atom(text, signs.at, depth, nodes, count);
@@ -158,7 +158,7 @@ fn unit(text: &[u8], at: usize, depth: usize, nodes: &mut [u8], count: usize) ->
 #[cycle(atom_both_bracket_proposition_unit)]
 fn both(text: &[u8], at: usize, depth: usize, nodes: &mut [u8], count: usize) -> Got
     requires { Ready text.now at nodes.old count }
-    ensures { Closes about_both has_both putAndP ByAnd depth text.now at nodes.old count nodes.new result }
+    ensures { Closes about_both has_both put_and_p ByAnd depth text.now at nodes.old count nodes.new result }
 {
     let mut got = unit(text, at, depth, nodes, count);
     let mut joiner = leaf::sign(text, got.ok, got.at, AND_SIGN);
@@ -175,7 +175,7 @@ fn both(text: &[u8], at: usize, depth: usize, nodes: &mut [u8], count: usize) ->
 #[cycle(atom_both_bracket_proposition_unit)]
 pub fn proposition(text: &[u8], at: usize, depth: usize, nodes: &mut [u8], count: usize) -> Got
     requires { Ready text.now at nodes.old count }
-    ensures { Reads before_p after putOrP depth text.now at nodes.old count nodes.new result }
+    ensures { Reads before_p after put_or_p depth text.now at nodes.old count nodes.new result }
 {
     let mut got = both(text, at, depth, nodes, count);
     let mut joiner = leaf::sign(text, got.ok, got.at, OR_SIGN);

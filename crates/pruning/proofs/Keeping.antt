@@ -17,14 +17,14 @@ use Rattle.stored.specs.Reach.{entry_of}
 use Rattle.stored.specs.Reached.{is_node, has_operand, Reached, itself, operand}
 use Rattle.stored.specs.Sheet.{header_of}
 use Rattle.stored.specs.Written.{node_in, NodeFits}
-use Rattle.stored.proofs.Tree.{operands, proposition-law, formula-law}
+use Rattle.stored.proofs.Tree.{operands, proposition_law, formula_law}
 use Rattle.stored.proofs.Ways.{operand_less}
 use Rattle.plans.specs.Bound.{most_emitted}
 use Rattle.plans.specs.Emission.{count, Good, Step, HasProposition, Has}
 use Rattle.plans.specs.Plan.{Put}
 use Rattle.plans.proofs.Steps.{steps, wider, has_kept, proposition_kept, Added, put_added}
 use Rattle.emission.specs.Copying.{mapped_to, copied_node}
-use Rattle.emission.proofs.Copies.{Given, some-sort, may_copy, is-proposition-copied, is-formula-copied}
+use Rattle.emission.proofs.Copies.{Given, some_sort, may_copy, is_proposition_copied, is_formula_copied}
 use Rattle.pruning.specs.Pruned.{Live, MarkedFrom, Same, KeptAt, passed, kept, PrunedTo, Drafted}
 
 -- ---- the copy of a node has the copies of its operands
@@ -82,8 +82,8 @@ same_kept s h = record { proposition = λ e. proposition_kept s (h.proposition e
 
 -- node i is passed over, or kept as node r of bytes that y became
 module _ {x : ℕ → Node} {marks y map : List ℕ} {i : ℕ} (r : ℕ) (right : (k : ℕ) → k ≤ i → operands_right emitted_sorts x k ≡ true) (h : Kept x marks i y map) where
-  pass-over : (Live marks i → ⊥) → Kept x marks (i + 1) y (set map i r)
-  pass-over dead =
+  pass_over : (Live marks i → ⊥) → Kept x marks (i + 1) y (set map i r)
+  pass_over dead =
       record {
         same = λ k l live. let less = earlier k l live in subst (Same x k y) (sym (entry_old map i r k less)) (h.same k less live);
         placed = λ k l live. let less = earlier k l live in subst (λ (e : ℕ). e < count y) (sym (entry_old map i r k less)) (h.placed k less live);
@@ -106,34 +106,34 @@ module _ {x : ℕ → Node} {marks y map : List ℕ} {i : ℕ} (r : ℕ) (right 
           ]
 
   module _ {z : List ℕ} (fits : i < length map) (live-i : Live marks i) (new : Added y z r (copied_node map (x i))) (is : Same x i z r) where
-    entry-i : entry_of (set map i r) i ≡ r
-    entry-i = entry_new map i r fits
+    entry_i : entry_of (set map i r) i ≡ r
+    entry_i = entry_new map i r fits
 
     keep_same : (k : ℕ) → k < i + 1 → Live marks k → Same x k z (entry_of (set map i r) k)
     keep_same k l live =
         elim (test (eqb k i)) [
-          | inl e ↦ subst (λ (o : ℕ). Same x o z (entry_of (set map i r) o)) (sym (eqb-true k i e)) (subst (Same x i z) (sym entry-i) is)
+          | inl e ↦ subst (λ (o : ℕ). Same x o z (entry_of (set map i r) o)) (sym (eqb-true k i e)) (subst (Same x i z) (sym entry_i) is)
           | inr e ↦ let other = eqb-false k i e in
               let less : k < i = omega arith in
               subst (Same x k z) (sym (entry_old map i r k less)) (same_kept new.step (h.same k less live))
         ]
 
-    keep-placed : (k : ℕ) → k < i + 1 → Live marks k → entry_of (set map i r) k < count z
-    keep-placed k l live =
+    keep_placed : (k : ℕ) → k < i + 1 → Live marks k → entry_of (set map i r) k < count z
+    keep_placed k l live =
         elim (test (eqb k i)) [
-          | inl e ↦ let at = ap (entry_of (set map i r)) (eqb-true k i e) ∙ entry-i in omega (arith, new.exact, new.place)
+          | inl e ↦ let at = ap (entry_of (set map i r)) (eqb-true k i e) ∙ entry_i in omega (arith, new.exact, new.place)
           | inr e ↦ let other = eqb-false k i e in
               let less : k < i = omega arith in
               let at = entry_old map i r k less in
               omega (arith, h.placed k less live, new.exact)
         ]
 
-    keep-linked : (j k : ℕ) → j < i + 1 → Live marks j → has_operand (x j) k ≡ true → has_operand (node_in z (entry_of (set map i r) j)) (entry_of (set map i r) k) ≡ true
-    keep-linked j k l live e =
+    keep_linked : (j k : ℕ) → j < i + 1 → Live marks j → has_operand (x j) k ≡ true → has_operand (node_in z (entry_of (set map i r) j)) (entry_of (set map i r) k) ≡ true
+    keep_linked j k l live e =
         let below = operand_less emitted_sorts x j k (right j (omega arith)) e in
         let at-k : entry_of (set map i r) k ≡ entry_of map k = entry_old map i r k (omega arith) in
         elim (test (eqb j i)) [
-          | inl f ↦ let at_j : entry_of (set map i r) j ≡ r = ap (entry_of (set map i r)) (eqb-true j i f) ∙ entry-i in
+          | inl f ↦ let at_j : entry_of (set map i r) j ≡ r = ap (entry_of (set map i r)) (eqb-true j i f) ∙ entry_i in
               rw (at_j, at-k) (rw new.node (operand_copied map (x i) k (subst (λ (o : ℕ). has_operand (x o) k ≡ true) (eqb-true j i f) e)))
           | inr f ↦ let other = eqb-false j i f in
               let less : j < i = omega arith in
@@ -141,111 +141,111 @@ module _ {x : ℕ → Node} {marks y map : List ℕ} {i : ℕ} (r : ℕ) (right 
               rw (at_j, at-k) (rw (new.step.same (entry_of map j) (h.placed j less live)) (h.linked j k less live e))
         ]
 
-    keep-came : (q : ℕ) → q < count z → Came marks (set map i r) (i + 1) q
-    keep-came q l =
+    keep_came : (q : ℕ) → q < count z → Came marks (set map i r) (i + 1) q
+    keep_came q l =
         elim (test (eqb q r)) [
-          | inl e ↦ record { node = i; less = omega arith; live = live-i; place = entry-i ∙ sym (eqb-true q r e) }
+          | inl e ↦ record { node = i; less = omega arith; live = live-i; place = entry_i ∙ sym (eqb-true q r e) }
           | inr e ↦ let other = eqb-false q r e in
               let o = h.came q (omega (arith, new.exact, new.place)) in
               let less = o.less in
               record { node = o.node; less = omega arith; live = o.live; place = entry_old map i r o.node less ∙ o.place }
         ]
 
-    keep-on : Kept x marks (i + 1) z (set map i r)
-    keep-on =
+    keep_on : Kept x marks (i + 1) z (set map i r)
+    keep_on =
         record {
           same = keep_same;
-          placed = keep-placed;
-          linked = keep-linked;
-          came = keep-came;
+          placed = keep_placed;
+          linked = keep_linked;
+          came = keep_came;
           last = λ k e live.
               let is-i : k ≡ i = omega arith in
-              let at = ap (entry_of (set map i r)) is-i ∙ entry-i in
+              let at = ap (entry_of (set map i r)) is-i ∙ entry_i in
               omega (arith, new.exact, new.place);
         }
 
 -- ---- a marked node's operands are marked, so that the map gives them
 module _ {x : ℕ → Node} {marks y map : List ℕ} {root i : ℕ} (right : operands_right emitted_sorts x i ≡ true) (m : MarkedFrom x root 0 marks)
     (most : i ≤ root) (live : Live marks i) (h : Kept x marks i y map) where
-  live-a : is_operand (a_use (x i).op) ≡ true → Live marks (x i).a
+  live_a : is_operand (a_use (x i).op) ≡ true → Live marks (x i).a
   unfolding has_operand is_node
-  live-a e = m.closed i (x i).a (omega arith) most live (or_left _ _ (and_intro _ _ e (eq-eqb (x i).a (x i).a refl)))
+  live_a e = m.closed i (x i).a (omega arith) most live (or_left _ _ (and_intro _ _ e (eq-eqb (x i).a (x i).a refl)))
 
-  live-b : is_operand (b_use (x i).op) ≡ true → Live marks (x i).b
+  live_b : is_operand (b_use (x i).op) ≡ true → Live marks (x i).b
   unfolding has_operand is_node
-  live-b e = m.closed i (x i).b (omega arith) most live (or_right (is_node (a_use (x i).op) (x i).a (x i).b) _ (and_intro _ _ e (eq-eqb (x i).b (x i).b refl)))
+  live_b e = m.closed i (x i).b (omega arith) most live (or_right (is_node (a_use (x i).op) (x i).a (x i).b) _ (and_intro _ _ e (eq-eqb (x i).b (x i).b refl)))
 
-  given-a : Given y map (proposition_at x) (formula_at x) (a_use (x i).op) (x i).a
+  given_a : Given y map (proposition_at x) (formula_at x) (a_use (x i).op) (x i).a
   unfolding is_operand
-  given-a =
+  given_a =
       let o = operands emitted_sorts x i right in
       record {
-        proposition = λ e. (h.same (x i).a (o.a_proposition e).less (live-a (rw e))).proposition (o.a_proposition e).sorted;
-        formula = λ e. (h.same (x i).a (o.a_formula e).less (live-a (rw e))).formula (o.a_formula e).sorted;
+        proposition = λ e. (h.same (x i).a (o.a_proposition e).less (live_a (rw e))).proposition (o.a_proposition e).sorted;
+        formula = λ e. (h.same (x i).a (o.a_formula e).less (live_a (rw e))).formula (o.a_formula e).sorted;
       }
 
-  given-b : Given y map (proposition_at x) (formula_at x) (b_use (x i).op) (x i).b
+  given_b : Given y map (proposition_at x) (formula_at x) (b_use (x i).op) (x i).b
   unfolding is_operand
-  given-b =
+  given_b =
       let o = operands emitted_sorts x i right in
       record {
-        proposition = λ e. (h.same (x i).b (o.b_proposition e).less (live-b (rw e))).proposition (o.b_proposition e).sorted;
-        formula = λ e. (h.same (x i).b (o.b_formula e).less (live-b (rw e))).formula (o.b_formula e).sorted;
+        proposition = λ e. (h.same (x i).b (o.b_proposition e).less (live_b (rw e))).proposition (o.b_proposition e).sorted;
+        formula = λ e. (h.same (x i).b (o.b_formula e).less (live_b (rw e))).formula (o.b_formula e).sorted;
       }
 
   -- its copy comes next, and is what it is
-  copy-added : {z : List ℕ} {r : ℕ} → Good y → count y < most_emitted → NodeFits (x i)
+  copy_added : {z : List ℕ} {r : ℕ} → Good y → count y < most_emitted → NodeFits (x i)
       → fields_right emitted_sorts (header_of y).signals (header_of y).names (x i) ≡ true → Put (copied_node map (x i)) y z r → Added y z r (copied_node map (x i))
   unfolding sort_of
-  copy-added good room fits fields put =
+  copy_added good room fits fields put =
       put_added
-      (may_copy emitted_sorts (x i) good room fits refl (λ e. some-sort emitted_sorts _ _ (x i) fields (ap (sort_of emitted_sorts) e)) fields given-a given-b)
+      (may_copy emitted_sorts (x i) good room fits refl (λ e. some_sort emitted_sorts _ _ (x i) fields (ap (sort_of emitted_sorts) e)) fields given_a given_b)
       put
 
-  copy-same : {z : List ℕ} {r : ℕ} → Added y z r (copied_node map (x i)) → Same x i z r
-  copy-same {z} {r} new =
+  copy_same : {z : List ℕ} {r : ℕ} → Added y z r (copied_node map (x i)) → Same x i z r
+  copy_same {z} {r} new =
       record {
-        proposition = λ e. subst (HasProposition z r) (sym (proposition-law emitted_sorts x i right)) (is-proposition-copied (x i) given-a given-b new e);
-        formula = λ e. subst (Has z r) (sym (formula-law emitted_sorts x i right)) (is-formula-copied (x i) given-a given-b new e);
+        proposition = λ e. subst (HasProposition z r) (sym (proposition_law emitted_sorts x i right)) (is_proposition_copied (x i) given_a given_b new e);
+        formula = λ e. subst (Has z r) (sym (formula_law emitted_sorts x i right)) (is_formula_copied (x i) given_a given_b new e);
       }
 
 -- ---- the loop
 module _ {d x₀ marks : List ℕ} {root : ℕ} (drafted : Drafted d root x₀) (m : MarkedFrom (node_in d) root 0 marks) where
-  draft-right : (k : ℕ) → k ≤ root → operands_right emitted_sorts (node_in d) k ≡ true
-  draft-right k l = drafted.good.operands_right_holds k (omega (arith, drafted.last))
+  draft_right : (k : ℕ) → k ≤ root → operands_right emitted_sorts (node_in d) k ≡ true
+  draft_right k l = drafted.good.operands_right_holds k (omega (arith, drafted.last))
 
   pub turn : {y z map : List ℕ} {i r : ℕ} → i ≤ root → length map ≡ most_emitted → Step x₀ y i → Kept (node_in d) marks i y map
       → KeptAt marks map i (node_in d i) y z r → (Step x₀ z (i + 1)) × (Kept (node_in d) marks (i + 1) z (set map i r))
-  turn {i = i} {r = r} most long s h (passed dead) = (wider (i + 1) (omega arith) s, pass-over r (λ k l. draft-right k (omega arith)) h dead)
+  turn {i = i} {r = r} most long s h (passed dead) = (wider (i + 1) (omega arith) s, pass_over r (λ k l. draft_right k (omega arith)) h dead)
   turn {y} {z} {map} {i} {r} most long s h (kept live fits put) =
       let last = drafted.last in
       let few = drafted.good.few_nodes in
       let fields : fields_right emitted_sorts (header_of y).signals (header_of y).names (node_in d i) ≡ true
       = rw (s.signals, s.names, drafted.signals, drafted.names) (drafted.good.nodes_right_holds i (omega arith))
       in
-      let new = copy-added (draft-right i most) m most live h s.good (omega (arith, s.few, drafted.none)) fits fields put in
-      (steps s new.step, keep-on r (λ k l. draft-right k (omega arith)) h (omega arith) live new (copy-same (draft-right i most) m most live h new))
+      let new = copy_added (draft_right i most) m most live h s.good (omega (arith, s.few, drafted.none)) fits fields put in
+      (steps s new.step, keep_on r (λ k l. draft_right k (omega arith)) h (omega arith) live new (copy_same (draft_right i most) m most live h new))
 
   -- every marked node is reached: it is the root, or an operand of a marked node after it
-  live-reached : {y map : List ℕ} (z : ℕ → Node) → ((i : ℕ) → i < count y → z i ≡ node_in y i) → Kept (node_in d) marks (root + 1) y map
+  live_reached : {y map : List ℕ} (z : ℕ → Node) → ((i : ℕ) → i < count y → z i ≡ node_in y i) → Kept (node_in d) marks (root + 1) y map
       → (more k : ℕ) → root ≤ k + more → k ≤ root → Live marks k → Reached z (entry_of map root) (entry_of map k)
-  live-reached {map = map} z agree h zero k least most live =
+  live_reached {map = map} z agree h zero k least most live =
       let is : root ≡ k = omega arith in
       subst (λ (o : ℕ). Reached z (entry_of map root) (entry_of map o)) is itself
-  live-reached {map = map} z agree h (suc more) k least most live =
+  live_reached {map = map} z agree h (suc more) k least most live =
       elim (test (eqb k root)) [
         | inl e ↦ subst (λ (o : ℕ). Reached z (entry_of map root) (entry_of map o)) (sym (eqb-true k root e)) itself
         | inr e ↦ let p = m.parented k live (eqb-false k root e) in
             let up = p.most in
-            let below = operand_less emitted_sorts (node_in d) p.node k (draft-right p.node up) p.operand in
+            let below = operand_less emitted_sorts (node_in d) p.node k (draft_right p.node up) p.operand in
             let link : has_operand (z (entry_of map p.node)) (entry_of map k) ≡ true
             = rw (agree (entry_of map p.node) (h.placed p.node (omega arith) p.live)) (h.linked p.node k (omega arith) p.live p.operand)
             in
-            operand (live-reached z agree h more p.node (omega arith) up p.live) link
+            operand (live_reached z agree h more p.node (omega arith) up p.live) link
       ]
 
-  pub pruned-to : {y map : List ℕ} {i r : ℕ} → i ≡ root + 1 → r ≡ entry_of map root → Step x₀ y i → Kept (node_in d) marks i y map → PrunedTo d root x₀ y r
-  pruned-to {y} {map} {i} {r} e f s h =
+  pub pruned_to : {y map : List ℕ} {i r : ℕ} → i ≡ root + 1 → r ≡ entry_of map root → Step x₀ y i → Kept (node_in d) marks i y map → PrunedTo d root x₀ y r
+  pruned_to {y} {map} {i} {r} e f s h =
       let all : Kept (node_in d) marks (root + 1) y map = subst (λ (n : ℕ). Kept (node_in d) marks n y map) e h in
       record {
         step = wider (root + 1) (omega arith) s;
@@ -254,5 +254,5 @@ module _ {d x₀ marks : List ℕ} {root : ℕ} (drafted : Drafted d root x₀) 
         reached = λ z agree j l.
             let o = all.came j l in
             let less = o.less in
-            rw f (subst (Reached z (entry_of map root)) o.place (live-reached z agree all root o.node (omega arith) (omega arith) o.live));
+            rw f (subst (Reached z (entry_of map root)) o.place (live_reached z agree all root o.node (omega arith) (omega arith) o.live));
       }

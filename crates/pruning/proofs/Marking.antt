@@ -19,18 +19,18 @@ use Rattle.pruning.specs.Pruned.{Live, marked, marked_node, marked_at, Parent, M
 
 -- ---- one mark
 module _ (marks : List ℕ) (v : ℕ) (inside : v < length marks) where
-  set-live : Live (set marks v 1) v
+  set_live : Live (set marks v 1) v
   unfolding entry_of
-  set-live = get_or-set_same marks v 1 0 inside
+  set_live = get_or-set_same marks v 1 0 inside
 
   set_other : (k : ℕ) → (k ≡ v → ⊥) → entry_of (set marks v 1) k ≡ entry_of marks k
   unfolding entry_of
   set_other k other = get_or-set_other marks v k 1 0 other
 
-  set-mono : (k : ℕ) → Live marks k → Live (set marks v 1) k
-  set-mono k h =
+  set_mono : (k : ℕ) → Live marks k → Live (set marks v 1) k
+  set_mono k h =
       elim (test (eqb k v)) [
-        | inl e ↦ subst (Live (set marks v 1)) (sym (eqb-true k v e)) set-live
+        | inl e ↦ subst (Live (set marks v 1)) (sym (eqb-true k v e)) set_live
         | inr e ↦ set_other k (eqb-false k v e) ∙ h
       ]
 
@@ -43,33 +43,33 @@ module _ (marks : List ℕ) (v : ℕ) (inside : v < length marks) where
 
 -- ---- the mark of a field
 module _ (marks : List ℕ) (what v : ℕ) where
-  marked-length : length (marked marks what v) ≡ length marks
+  marked_length : length (marked marks what v) ≡ length marks
   unfolding marked
-  marked-length = go (is_operand what && ltb v (length marks))
+  marked_length = go (is_operand what && ltb v (length marks))
     where
       go : (b : Bool) → length (cond b (set marks v 1) marks) ≡ length marks
       go true = length-set marks v 1
       go false = refl
 
-  marked-mono : (k : ℕ) → Live marks k → Live (marked marks what v) k
+  marked_mono : (k : ℕ) → Live marks k → Live (marked marks what v) k
   unfolding marked
-  marked-mono k h = go (is_operand what && ltb v (length marks)) refl
+  marked_mono k h = go (is_operand what && ltb v (length marks)) refl
     where
       go : (b : Bool) → (is_operand what && ltb v (length marks)) ≡ b → Live (cond b (set marks v 1) marks) k
-      go true e = set-mono marks v (ltb-true v (length marks) (and_right (is_operand what) _ e)) k h
+      go true e = set_mono marks v (ltb-true v (length marks) (and_right (is_operand what) _ e)) k h
       go false e = h
 
-  marked-new : (k : ℕ) → k < length marks → is_node what v k ≡ true → Live (marked marks what v) k
+  marked_new : (k : ℕ) → k < length marks → is_node what v k ≡ true → Live (marked marks what v) k
   unfolding marked is_node
-  marked-new k l e =
+  marked_new k l e =
       let is : v ≡ k = eqb-true v k (and_right (is_operand what) _ e) in
       let inside : v < length marks = omega arith in
       subst (λ (b : Bool). Live (cond b (set marks v 1) marks) k) (sym (and_intro _ _ (and_left (is_operand what) _ e) (lt-ltb v (length marks) inside)))
-      (subst (Live (set marks v 1)) is (set-live marks v inside))
+      (subst (Live (set marks v 1)) is (set_live marks v inside))
 
-  marked-back : (k : ℕ) → Live (marked marks what v) k → (Live marks k) ⊎ (is_node what v k ≡ true)
+  marked_back : (k : ℕ) → Live (marked marks what v) k → (Live marks k) ⊎ (is_node what v k ≡ true)
   unfolding marked is_node
-  marked-back k h = go (is_operand what && ltb v (length marks)) refl h
+  marked_back k h = go (is_operand what && ltb v (length marks)) refl h
     where
       go : (b : Bool) → (is_operand what && ltb v (length marks)) ≡ b → Live (cond b (set marks v 1) marks) k → (Live marks k) ⊎ ((is_operand what && eqb v k) ≡ true)
       go true e g =
@@ -81,28 +81,28 @@ module _ (marks : List ℕ) (what v : ℕ) where
 
 -- ---- the marks of a node's operands
 module _ (marks : List ℕ) (n : Node) where
-  node-length : length (marked_node marks n) ≡ length marks
+  node_length : length (marked_node marks n) ≡ length marks
   unfolding marked_node
-  node-length = marked-length (marked marks (a_use n.op) n.a) (b_use n.op) n.b ∙ marked-length marks (a_use n.op) n.a
+  node_length = marked_length (marked marks (a_use n.op) n.a) (b_use n.op) n.b ∙ marked_length marks (a_use n.op) n.a
 
-  node-mono : (k : ℕ) → Live marks k → Live (marked_node marks n) k
+  node_mono : (k : ℕ) → Live marks k → Live (marked_node marks n) k
   unfolding marked_node
-  node-mono k h = marked-mono (marked marks (a_use n.op) n.a) (b_use n.op) n.b k (marked-mono marks (a_use n.op) n.a k h)
+  node_mono k h = marked_mono (marked marks (a_use n.op) n.a) (b_use n.op) n.b k (marked_mono marks (a_use n.op) n.a k h)
 
-  node-new : (k : ℕ) → k < length marks → has_operand n k ≡ true → Live (marked_node marks n) k
+  node_new : (k : ℕ) → k < length marks → has_operand n k ≡ true → Live (marked_node marks n) k
   unfolding marked_node has_operand
-  node-new k l e =
+  node_new k l e =
       let first = marked marks (a_use n.op) n.a in
       elim (or_elim (is_node (a_use n.op) n.a k) (is_node (b_use n.op) n.b k) e) [
-        | inl h ↦ marked-mono first (b_use n.op) n.b k (marked-new marks (a_use n.op) n.a k l h)
-        | inr h ↦ marked-new first (b_use n.op) n.b k (omega (arith, marked-length marks (a_use n.op) n.a)) h
+        | inl h ↦ marked_mono first (b_use n.op) n.b k (marked_new marks (a_use n.op) n.a k l h)
+        | inr h ↦ marked_new first (b_use n.op) n.b k (omega (arith, marked_length marks (a_use n.op) n.a)) h
       ]
 
-  node-back : (k : ℕ) → Live (marked_node marks n) k → (Live marks k) ⊎ (has_operand n k ≡ true)
+  node_back : (k : ℕ) → Live (marked_node marks n) k → (Live marks k) ⊎ (has_operand n k ≡ true)
   unfolding marked_node has_operand
-  node-back k h =
-      elim (marked-back (marked marks (a_use n.op) n.a) (b_use n.op) n.b k h) [
-        | inl g ↦ elim (marked-back marks (a_use n.op) n.a k g) [
+  node_back k h =
+      elim (marked_back (marked marks (a_use n.op) n.a) (b_use n.op) n.b k h) [
+        | inl g ↦ elim (marked_back marks (a_use n.op) n.a k g) [
           | inl old ↦ inl old
           | inr new ↦ inr (or_left _ _ new)
         ]
@@ -116,20 +116,20 @@ module _ (marks : List ℕ) (i : ℕ) (n : Node) where
   at_length = go (eqb (entry_of marks i) 1)
     where
       go : (b : Bool) → length (cond b (marked_node marks n) marks) ≡ length marks
-      go true = node-length marks n
+      go true = node_length marks n
       go false = refl
 
-  at-mono : (k : ℕ) → Live marks k → Live (marked_at marks i n) k
+  at_mono : (k : ℕ) → Live marks k → Live (marked_at marks i n) k
   unfolding marked_at
-  at-mono k h = go (eqb (entry_of marks i) 1)
+  at_mono k h = go (eqb (entry_of marks i) 1)
     where
       go : (b : Bool) → Live (cond b (marked_node marks n) marks) k
-      go true = node-mono marks n k h
+      go true = node_mono marks n k h
       go false = h
 
   at_new : (k : ℕ) → k < length marks → Live marks i → has_operand n k ≡ true → Live (marked_at marks i n) k
   unfolding marked_at
-  at_new k l live e = rw (eq-eqb (entry_of marks i) 1 live) (node-new marks n k l e)
+  at_new k l live e = rw (eq-eqb (entry_of marks i) 1 live) (node_new marks n k l e)
 
   at_back : (k : ℕ) → Live (marked_at marks i n) k → (Live marks k) ⊎ ((Live marks i) × (has_operand n k ≡ true))
   unfolding marked_at
@@ -137,7 +137,7 @@ module _ (marks : List ℕ) (i : ℕ) (n : Node) where
     where
       go : (b : Bool) → eqb (entry_of marks i) 1 ≡ b → Live (cond b (marked_node marks n) marks) k → (Live marks k) ⊎ ((Live marks i) × (has_operand n k ≡ true))
       go true e g =
-          elim (node-back marks n k g) [
+          elim (node_back marks n k g) [
             | inl old ↦ inl old
             | inr new ↦ inr (eqb-true (entry_of marks i) 1 e, new)
           ]
@@ -156,7 +156,7 @@ pub first_marked : {x : ℕ → Node} {root i : ℕ} (marks : List ℕ) → root
 first_marked {x} {root} {i} marks inside none e =
     record {
       inside = omega (arith, length-set marks root 1);
-      root_live = set-live marks root inside;
+      root_live = set_live marks root inside;
       closed = λ p k least most live h. absurd (omega arith);
       parented = λ k live other.
           elim (set_back marks root inside k live) [
@@ -168,40 +168,40 @@ first_marked {x} {root} {i} marks inside none e =
 module _ {x : ℕ → Node} {root i j : ℕ} {marks : List ℕ} (right : (k : ℕ) → k ≤ root → operands_right emitted_sorts x k ≡ true)
     (next : i ≡ j + 1) (some : j ≤ root) (m : MarkedFrom x root i marks) where
   -- a marked node from j on was marked before
-  marked-before : (p : ℕ) → j ≤ p → Live (marked_at marks j (x j)) p → Live marks p
-  marked-before p least live =
+  marked_before : (p : ℕ) → j ≤ p → Live (marked_at marks j (x j)) p → Live marks p
+  marked_before p least live =
       elim (at_back marks j (x j) p live) [
         | inl old ↦ old
         | inr new ↦ absurd (omega (arith, operand_less emitted_sorts x j p (right j some) new.1))
       ]
 
-  turn-closed : (p k : ℕ) → j ≤ p → p ≤ root → Live (marked_at marks j (x j)) p → has_operand (x p) k ≡ true → Live (marked_at marks j (x j)) k
-  turn-closed p k least most live e =
-      let old = marked-before p least live in
+  turn_closed : (p k : ℕ) → j ≤ p → p ≤ root → Live (marked_at marks j (x j)) p → has_operand (x p) k ≡ true → Live (marked_at marks j (x j)) k
+  turn_closed p k least most live e =
+      let old = marked_before p least live in
       elim (test (eqb p j)) [
         | inl same ↦ let is = eqb-true p j same in
             at_new marks j (x j) k (omega (arith, m.inside, operand_less emitted_sorts x p k (right p most) e)) (subst (Live marks) is old)
             (subst (λ (o : ℕ). has_operand (x o) k ≡ true) is e)
         | inr other ↦ let differs = eqb-false p j other in
-            at-mono marks j (x j) k (m.closed p k (omega arith) most old e)
+            at_mono marks j (x j) k (m.closed p k (omega arith) most old e)
       ]
 
-  turn-parented : (k : ℕ) → Live (marked_at marks j (x j)) k → (k ≡ root → ⊥) → Parent x root (marked_at marks j (x j)) k
-  turn-parented k live other =
+  turn_parented : (k : ℕ) → Live (marked_at marks j (x j)) k → (k ≡ root → ⊥) → Parent x root (marked_at marks j (x j)) k
+  turn_parented k live other =
       elim (at_back marks j (x j) k live) [
         | inl old ↦ let p = m.parented k old other in
-            record { node = p.node; most = p.most; live = at-mono marks j (x j) p.node p.live; operand = p.operand }
-        | inr new ↦ record { node = j; most = some; live = at-mono marks j (x j) j new.0; operand = new.1 }
+            record { node = p.node; most = p.most; live = at_mono marks j (x j) p.node p.live; operand = p.operand }
+        | inr new ↦ record { node = j; most = some; live = at_mono marks j (x j) j new.0; operand = new.1 }
       ]
 
   -- one turn
-  pub turn-down : MarkedFrom x root j (marked_at marks j (x j))
-  turn-down =
+  pub turn_down : MarkedFrom x root j (marked_at marks j (x j))
+  turn_down =
       record {
         inside = omega (arith, m.inside, at_length marks j (x j));
-        root_live = at-mono marks j (x j) root m.root_live;
-        closed = turn-closed;
-        parented = turn-parented;
+        root_live = at_mono marks j (x j) root m.root_live;
+        closed = turn_closed;
+        parented = turn_parented;
       }
 
 pub all_marked : {x : ℕ → Node} {root i : ℕ} {marks : List ℕ} → i ≡ 0 → MarkedFrom x root i marks → MarkedFrom x root 0 marks

@@ -1,3 +1,5 @@
 // Writes of a drafted formula what its root reaches.
+#![tactic(auto)]
+
 pub mod keep;
 pub mod mark;

@@ -30,8 +30,8 @@ drawn_cong steady p q b e f l =
 
 -- one column; `end` is the cycle itself for a stretch and a duration, and the next cycle where the last one counts
 module _ (n column : ℕ) (p : ℕ → Bool) (f : Column n column p) (b : ℕ) where
-  pub point-of : b < n → row n (λ b e. bit column b) b ≡ row n (λ b e. p b) b
-  point-of l = row_ext n (λ b e. bit column b) (λ b e. p b) b (λ e x y. f b l)
+  pub point_of : b < n → row n (λ b e. bit column b) b ≡ row n (λ b e. p b) b
+  point_of l = row_ext n (λ b e. bit column b) (λ b e. p b) b (λ e x y. f b l)
 
   pub held_of : (end : ℕ → ℕ) → ((e : ℕ) → e < n → end e ≤ n)
       → row n (λ b e. every_from b (end e) (bit column)) b ≡ row n (λ b e. every_from b (end e) p) b
@@ -39,13 +39,13 @@ module _ (n column : ℕ) (p : ℕ → Bool) (f : Column n column p) (b : ℕ) w
       row_ext n (λ b e. every_from b (end e) (bit column)) (λ b e. every_from b (end e) p) b
       (λ e x y. let m = g e y in every_cong b (end e) (bit column) p (λ t u v. f t (omega arith)))
 
-  pub unit-of : b < n → row n (λ b e. eqb e (b + 1) && bit column b) b ≡ row n (λ b e. eqb e (b + 1) && p b) b
-  unit-of l =
+  pub unit_of : b < n → row n (λ b e. eqb e (b + 1) && bit column b) b ≡ row n (λ b e. eqb e (b + 1) && p b) b
+  unit_of l =
       row_ext n (λ b e. eqb e (b + 1) && bit column b) (λ b e. eqb e (b + 1) && p b) b
       (λ e x y. ap (λ (c : Bool). eqb e (b + 1) && c) (f b l))
 
-  pub marked-of : b < n → row n (λ b e. eqb b e && bit column b) b ≡ row n (λ b e. eqb b e && p b) b
-  marked-of l =
+  pub marked_of : b < n → row n (λ b e. eqb b e && bit column b) b ≡ row n (λ b e. eqb b e && p b) b
+  marked_of l =
       row_ext n (λ b e. eqb b e && bit column b) (λ b e. eqb b e && p b) b (λ e x y. ap (λ (c : Bool). eqb b e && c) (f b l))
 
   pub counted_of : (end : ℕ → ℕ) (c : Comparison) (number : ℕ) → ((e : ℕ) → e < n → end e ≤ n)
@@ -56,8 +56,8 @@ module _ (n column : ℕ) (p : ℕ → Bool) (f : Column n column p) (b : ℕ) w
       let m = g e y in
       ap (λ (k : ℕ). compared c k number) (count_cong b (end e) (bit column) p (λ t u v. f t (omega arith))))
 
-  pub drawn-of : (s : Symbol) → row n (λ b e. drawn_on s (bit column) b e) b ≡ row n (λ b e. drawn_on s p b e) b
-  drawn-of s =
+  pub drawn_of : (s : Symbol) → row n (λ b e. drawn_on s (bit column) b e) b ≡ row n (λ b e. drawn_on s p b e) b
+  drawn_of s =
       row_ext n (λ b e. drawn_on s (bit column) b e) (λ b e. drawn_on s p b e) b
       (λ e x y. drawn_cong s (bit column) p b e (λ t u v. f t (omega arith)) x)
 

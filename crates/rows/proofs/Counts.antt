@@ -71,46 +71,46 @@ count_without (suc e) t p q s f =
 
 -- the cycles below e of a set that has some, and of the set without its lowest
 module _ (left : ℕ) (some : 0 < left) (fits : left < 2 ^ 64) (e : ℕ) where
-  abbrev lowest-at : ℕ
-  lowest-at = count_trailing_zeros 64 left
+  abbrev lowest_at : ℕ
+  lowest_at = count_trailing_zeros 64 left
 
   abbrev rest : ℕ
   rest = bit_and left (left - 1)
 
-  dropped-count : count_below e (bit left) ≡ count_below e (bit rest) + cond (ltb lowest-at e) 1 0
-  dropped-count =
+  dropped_count : count_below e (bit left) ≡ count_below e (bit rest) + cond (ltb lowest_at e) 1 0
+  dropped_count =
       let low = lowest 64 left some fits in
-      count_without e lowest-at (bit left) (bit rest) low.set (λ k. bit_and_lem left (left - 1) k ∙ low.cleared k)
+      count_without e lowest_at (bit left) (bit rest) low.set (λ k. bit_and_lem left (left - 1) k ∙ low.cleared k)
 
-  none-under : ltb lowest-at e ≡ false → count_below e (bit left) ≡ 0
-  none-under u =
-      let l = ltb-false lowest-at e u in
+  none_under : ltb lowest_at e ≡ false → count_below e (bit left) ≡ 0
+  none_under u =
+      let l = ltb-false lowest_at e u in
       count_none e (bit left) (λ k m. (lowest 64 left some fits).lower k (omega arith))
 
   -- a turn: one fewer of the rest
-  drop-turn : (more : ℕ) → 0 < more → ltb (more - 1) (count_below e (bit rest)) ≡ ltb more (count_below e (bit left))
-  drop-turn more p =
-      let all = dropped-count in
-      elim (test (ltb lowest-at e)) [
+  drop_turn : (more : ℕ) → 0 < more → ltb (more - 1) (count_below e (bit rest)) ≡ ltb more (count_below e (bit left))
+  drop_turn more p =
+      let all = dropped_count in
+      elim (test (ltb lowest_at e)) [
         | inl u ↦ (
-            let one : ◌≡◌ {A = ℕ} (cond (ltb lowest-at e) 1 0) 1 = ap (λ (c : Bool). cond c 1 0) u in
+            let one : ◌≡◌ {A = ℕ} (cond (ltb lowest_at e) 1 0) 1 = ap (λ (c : Bool). cond c 1 0) u in
             same (ltb (more - 1) (count_below e (bit rest))) (ltb more (count_below e (bit left)))
             (λ s. let l = ltb-true (more - 1) (count_below e (bit rest)) s in lt-ltb more (count_below e (bit left)) (omega arith))
             (λ s. let l = ltb-true more (count_below e (bit left)) s in lt-ltb (more - 1) (count_below e (bit rest)) (omega arith)))
         | inr u ↦ (
-            let none = none-under u in
+            let none = none_under u in
             le-ltb (more - 1) (count_below e (bit rest)) (omega arith) ∙ sym (le-ltb more (count_below e (bit left)) (omega arith)))
       ]
 
   -- the end: some cycle of the set is below e
-  drop-end : ltb 0 (count_below e (bit left)) ≡ ltb lowest-at e
-  drop-end =
-      let all = dropped-count in
-      elim (test (ltb lowest-at e)) [
+  drop_end : ltb 0 (count_below e (bit left)) ≡ ltb lowest_at e
+  drop_end =
+      let all = dropped_count in
+      elim (test (ltb lowest_at e)) [
         | inl u ↦ (
-            let one : ◌≡◌ {A = ℕ} (cond (ltb lowest-at e) 1 0) 1 = ap (λ (c : Bool). cond c 1 0) u in
+            let one : ◌≡◌ {A = ℕ} (cond (ltb lowest_at e) 1 0) 1 = ap (λ (c : Bool). cond c 1 0) u in
             lt-ltb 0 (count_below e (bit left)) (omega arith) ∙ sym u)
-        | inr u ↦ (let none = none-under u in le-ltb 0 (count_below e (bit left)) (omega arith) ∙ sym u)
+        | inr u ↦ (let none = none_under u in le-ltb 0 (count_below e (bit left)) (omega arith) ∙ sym u)
       ]
 
 -- a column without the cycles below b
@@ -130,8 +130,8 @@ dropped_none column b number = record { fits = from_fits column b; alike = λ e.
 
 module _ (column b number left more : ℕ) (d : Dropped column b number left more) where
   -- where the ones from b on are more than the number, something is left
-  pub dropped-some : number < ones (from column b) → 0 < left
-  dropped-some m =
+  pub dropped_some : number < ones (from column b) → 0 < left
+  dropped_some m =
       elim (test (eqb left 0)) [
         | inl u ↦ (
             let z = eqb-true left 0 u in
@@ -142,11 +142,11 @@ module _ (column b number left more : ℕ) (d : Dropped column b number left mor
         | inr u ↦ (let z = eqb-false left 0 u in omega arith)
       ]
 
-  pub dropped-more : 0 < left → 0 < more → Dropped column b number (bit_and left (left - 1)) (more - 1)
-  dropped-more s p =
+  pub dropped_more : 0 < left → 0 < more → Dropped column b number (bit_and left (left - 1)) (more - 1)
+  dropped_more s p =
       record {
         fits = let h = d.fits in omega (arith, and_le_l left (left - 1));
-        alike = λ e. drop-turn left s d.fits e more p ∙ d.alike e;
+        alike = λ e. drop_turn left s d.fits e more p ∙ d.alike e;
       }
 
 count_start : (column b e : ℕ) → e ≤ 64 → count_from b e (bit column) ≡ count_below e (bit (from column b))
@@ -157,25 +157,25 @@ count_start column b e l =
 
 -- above a number
 module _ (column number last b : ℕ) (short : last ≤ 1) where
-  above-start : (e : ℕ) → e < 64 → counted_to above column number last b e ≡ ltb number (count_below (e + last) (bit (from column b)))
+  above_start : (e : ℕ) → e < 64 → counted_to above column number last b e ≡ ltb number (count_below (e + last) (bit (from column b)))
   unfolding counted_to compared
-  above-start e m = ap (ltb number) (count_start column b (e + last) (omega arith))
+  above_start e m = ap (ltb number) (count_start column b (e + last) (omega arith))
 
   -- too few cycles in all
-  pub few-above : ones (from column b) ≤ number → Counted above column number last b 0
-  few-above few =
+  pub few_above : ones (from column b) ≤ number → Counted above column number last b 0
+  few_above few =
       record {
         passes = λ e l m.
             let all = ones_count 64 (from column b) (from_fits column b) in
             let grows = count_grows 64 (e + last) (bit (from column b)) (omega arith) in
             bit_nothing e
-            ∙ sym (above-start e m ∙ le-ltb number (count_below (e + last) (bit (from column b))) (omega arith));
+            ∙ sym (above_start e m ∙ le-ltb number (count_below (e + last) (bit (from column b))) (omega arith));
       }
 
   -- the count is passed from the cycle on, or after the cycle, that is the lowest left
-  pub dropped-above : (left : ℕ) → 0 < left → Dropped column b number left 0
+  pub dropped_above : (left : ℕ) → 0 < left → Dropped column b number left 0
       → Counted above column number last b (2 ^ 64 - 1 - word 64 (λ e. ltb e (count_trailing_zeros 64 left + 1 - last)))
-  dropped-above left s d =
+  dropped_above left s d =
       record {
         passes = λ e l m.
             bit_not 64 _ e (word_small 64 (λ e. ltb e (t + 1 - last))) m
@@ -184,7 +184,7 @@ module _ (column number last b : ℕ) (short : last ≤ 1) where
             ∙ same (leb (t + 1 - last) e) (ltb t (e + last))
             (λ u. let z = leb-true (t + 1 - last) e u in lt-ltb t (e + last) (omega arith))
             (λ u. let z = ltb-true t (e + last) u in le-leb (t + 1 - last) e (omega arith))
-            ∙ sym (above-start e m ∙ sym (d.alike (e + last)) ∙ drop-end left s d.fits (e + last));
+            ∙ sym (above_start e m ∙ sym (d.alike (e + last)) ∙ drop_end left s d.fits (e + last));
       }
     where
       t : ℕ
@@ -193,15 +193,15 @@ module _ (column number last b : ℕ) (short : last ≤ 1) where
 -- every comparison, by at least and above
 module _ (column number last b : ℕ) where
   -- at least none
-  pub all-least : number ≡ 0 → Counted at_least column number last b (2 ^ 64 - 1)
+  pub all_least : number ≡ 0 → Counted at_least column number last b (2 ^ 64 - 1)
   unfolding counted_to compared
-  all-least z =
+  all_least z =
       record { passes = λ e l m. bit_ones 64 e m ∙ sym (le-leb number (count_from b (e + last) (bit column)) (omega arith)) }
 
   -- at least the number: above the one before it
-  pub above-least : (set : ℕ) → 0 < number → Counted above column (number - 1) last b set → Counted at_least column number last b set
+  pub above_least : (set : ℕ) → 0 < number → Counted above column (number - 1) last b set → Counted at_least column number last b set
   unfolding counted_to compared
-  above-least set p t =
+  above_least set p t =
       record {
         passes = λ e l m.
             let x = count_from b (e + last) (bit column) in
@@ -211,20 +211,20 @@ module _ (column number last b : ℕ) where
             (λ u. let z = leb-true number x u in lt-ltb (number - 1) x (omega arith));
       }
 
-  pub counted-below : (set : ℕ) → set < 2 ^ 64 → Counted at_least column number last b set → Counted below column number last b (2 ^ 64 - 1 - set)
+  pub counted_below : (set : ℕ) → set < 2 ^ 64 → Counted at_least column number last b set → Counted below column number last b (2 ^ 64 - 1 - set)
   unfolding counted_to compared
-  counted-below set h t =
+  counted_below set h t =
       record { passes = λ e l m. bit_not 64 set e h m ∙ ap not (t.passes e l m) ∙ not_most number (count_from b (e + last) (bit column)) }
 
-  pub counted-most : (set : ℕ) → set < 2 ^ 64 → Counted above column number last b set → Counted at_most column number last b (2 ^ 64 - 1 - set)
+  pub counted_most : (set : ℕ) → set < 2 ^ 64 → Counted above column number last b set → Counted at_most column number last b (2 ^ 64 - 1 - set)
   unfolding counted_to compared
-  counted-most set h t =
+  counted_most set h t =
       record { passes = λ e l m. bit_not 64 set e h m ∙ ap not (t.passes e l m) ∙ not_less number (count_from b (e + last) (bit column)) }
 
-  pub counted-equal : (least more : ℕ) → more < 2 ^ 64 → Counted at_least column number last b least → Counted above column number last b more
+  pub counted_equal : (least more : ℕ) → more < 2 ^ 64 → Counted at_least column number last b least → Counted above column number last b more
       → Counted equal column number last b (bit_and least (2 ^ 64 - 1 - more))
   unfolding counted_to compared
-  counted-equal least more h s t =
+  counted_equal least more h s t =
       record {
         passes = λ e l m.
             let x = count_from b (e + last) (bit column) in
@@ -262,36 +262,36 @@ after_all b number h =
     }
 
 module _ (b number at : ℕ) (a : After b number at) where
-  less-bit : (e : ℕ) → b ≤ e → e < 64 → bit (word 64 (λ e. ltb e at)) e ≡ ltb (e - b) number
-  less-bit e l m = word_bit 64 (λ e. ltb e at) e m ∙ a.less e l m
+  less_bit : (e : ℕ) → b ≤ e → e < 64 → bit (word 64 (λ e. ltb e at)) e ≡ ltb (e - b) number
+  less_bit e l m = word_bit 64 (λ e. ltb e at) e m ∙ a.less e l m
 
-  most-bit : (e : ℕ) → b ≤ e → e < 64 → bit (word 64 (λ e. leb e at)) e ≡ leb (e - b) number
-  most-bit e l m = word_bit 64 (λ e. leb e at) e m ∙ a.most e l m
+  most_bit : (e : ℕ) → b ≤ e → e < 64 → bit (word 64 (λ e. leb e at)) e ≡ leb (e - b) number
+  most_bit e l m = word_bit 64 (λ e. leb e at) e m ∙ a.most e l m
 
-  pub distant-below : Distant below b number (word 64 (λ e. ltb e at))
+  pub distant_below : Distant below b number (word 64 (λ e. ltb e at))
   unfolding compared
-  distant-below = record { passes = less-bit }
+  distant_below = record { passes = less_bit }
 
-  pub distant-most : Distant at_most b number (word 64 (λ e. leb e at))
+  pub distant_most : Distant at_most b number (word 64 (λ e. leb e at))
   unfolding compared
-  distant-most = record { passes = most-bit }
+  distant_most = record { passes = most_bit }
 
-  pub distant-least : Distant at_least b number (2 ^ 64 - 1 - word 64 (λ e. ltb e at))
+  pub distant_least : Distant at_least b number (2 ^ 64 - 1 - word 64 (λ e. ltb e at))
   unfolding compared
-  distant-least =
-      record { passes = λ e l m. bit_not 64 _ e (word_small 64 (λ e. ltb e at)) m ∙ ap not (less-bit e l m) ∙ not_less (e - b) number }
+  distant_least =
+      record { passes = λ e l m. bit_not 64 _ e (word_small 64 (λ e. ltb e at)) m ∙ ap not (less_bit e l m) ∙ not_less (e - b) number }
 
-  pub distant-above : Distant above b number (2 ^ 64 - 1 - word 64 (λ e. leb e at))
+  pub distant_above : Distant above b number (2 ^ 64 - 1 - word 64 (λ e. leb e at))
   unfolding compared
-  distant-above =
-      record { passes = λ e l m. bit_not 64 _ e (word_small 64 (λ e. leb e at)) m ∙ ap not (most-bit e l m) ∙ not_most (e - b) number }
+  distant_above =
+      record { passes = λ e l m. bit_not 64 _ e (word_small 64 (λ e. leb e at)) m ∙ ap not (most_bit e l m) ∙ not_most (e - b) number }
 
-  pub distant-equal : Distant equal b number (bit_and (word 64 (λ e. leb e at)) (2 ^ 64 - 1 - word 64 (λ e. ltb e at)))
+  pub distant_equal : Distant equal b number (bit_and (word 64 (λ e. leb e at)) (2 ^ 64 - 1 - word 64 (λ e. ltb e at)))
   unfolding compared
-  distant-equal =
+  distant_equal =
       record {
         passes = λ e l m.
             bit_and_lem (word 64 (λ e. leb e at)) (2 ^ 64 - 1 - word 64 (λ e. ltb e at)) e
-            ∙ ap₂ (λ (x y : Bool). x && y) (most-bit e l m) (bit_not 64 _ e (word_small 64 (λ e. ltb e at)) m ∙ ap not (less-bit e l m))
+            ∙ ap₂ (λ (x y : Bool). x && y) (most_bit e l m) (bit_not 64 _ e (word_small 64 (λ e. ltb e at)) m ∙ ap not (less_bit e l m))
             ∙ between (e - b) number;
       }

@@ -56,10 +56,10 @@ pub cut_bit : (w x b e : ℕ) → e < w → bit (bit_and x (2 ^ w - 1 - word w (
 cut_bit w x b e l =
     bit_and_lem x (2 ^ w - 1 - word w (λ t. ltb t b)) e
     ∙ ap (λ (c : Bool). bit x e && c)
-    (bit_not w (word w (λ t. ltb t b)) e (word_small w (λ t. ltb t b)) l ∙ ap not (word_bit w (λ t. ltb t b) e l) ∙ not-under)
+    (bit_not w (word w (λ t. ltb t b)) e (word_small w (λ t. ltb t b)) l ∙ ap not (word_bit w (λ t. ltb t b) e l) ∙ not_under)
   where
-    not-under : not (ltb e b) ≡ leb b e
-    not-under =
+    not_under : not (ltb e b) ≡ leb b e
+    not_under =
         same (not (ltb e b)) (leb b e)
         (λ t. le-leb b e (ltb-false e b (not-true (ltb e b) t)))
         (λ t. ap not (le-ltb e b (leb-true b e t)))

@@ -38,29 +38,29 @@ advice_small (c ∷ cs) σ = go (fails_as advice σ c) (advice_small cs σ)
 
 -- ---- what does not hear of it
 module _ (c : Clause) (is : c.role ≡ advice) where
-  fails-over : (r : Role) → same_role r advice ≡ false → (earlier later : List Clause) (σ : Trace)
+  fails_over : (r : Role) → same_role r advice ≡ false → (earlier later : List Clause) (σ : Trace)
       → some_fails r (earlier ++ c ∷ later) σ ≡ some_fails r (earlier ++ later) σ
   unfolding some_fails fails_as has_role
-  fails-over r other [] later σ = rw (is, other)
-  fails-over r other (d ∷ earlier) later σ = ap (λ (b : Bool). fails_as r σ d || b) (fails-over r other earlier later σ)
+  fails_over r other [] later σ = rw (is, other)
+  fails_over r other (d ∷ earlier) later σ = ap (λ (b : Bool). fails_as r σ d || b) (fails_over r other earlier later σ)
 
   -- advice never makes a requirement true or false
-  pub requirement-over : (earlier later : List Clause) (σ : Trace) → requirement (earlier ++ c ∷ later) σ ≡ requirement (earlier ++ later) σ
+  pub requirement_over : (earlier later : List Clause) (σ : Trace) → requirement (earlier ++ c ∷ later) σ ≡ requirement (earlier ++ later) σ
   unfolding requirement same_role
-  requirement-over earlier later σ =
-      ap₂ (λ (a b : Bool). a || not b) (fails-over assumption refl earlier later σ) (fails-over commitment refl earlier later σ)
+  requirement_over earlier later σ =
+      ap₂ (λ (a b : Bool). a || not b) (fails_over assumption refl earlier later σ) (fails_over commitment refl earlier later σ)
 
-  join-over : (r : Role) → same_role r advice ≡ false → (earlier later : List Clause) (f : Formula)
+  join_over : (r : Role) → same_role r advice ≡ false → (earlier later : List Clause) (f : Formula)
       → join_broken r f (earlier ++ c ∷ later) ≡ join_broken r f (earlier ++ later)
   unfolding join_broken has_role
-  join-over r other [] later f = rw (is, other)
-  join-over r other (d ∷ earlier) later f = join-over r other earlier later (cond (has_role r d) (disjunction f (broken_clause d)) f)
+  join_over r other [] later f = rw (is, other)
+  join_over r other (d ∷ earlier) later f = join_over r other earlier later (cond (has_role r d) (disjunction f (broken_clause d)) f)
 
   -- and is not part of its formula
-  pub translation-over : (earlier later : List Clause) → translation (earlier ++ c ∷ later) ≡ translation (earlier ++ later)
+  pub translation_over : (earlier later : List Clause) → translation (earlier ++ c ∷ later) ≡ translation (earlier ++ later)
   unfolding translation same_role
-  translation-over earlier later =
-      ap₂ (λ (f g : Formula). disjunction f (negation g)) (join-over assumption refl earlier later nothing) (join-over commitment refl earlier later nothing)
+  translation_over earlier later =
+      ap₂ (λ (f g : Formula). disjunction f (negation g)) (join_over assumption refl earlier later nothing) (join_over commitment refl earlier later nothing)
 
 -- ---- the formula is that of the other clauses
 join_without : (r : Role) → same_role r advice ≡ false → (cs : List Clause) (f : Formula) → join_broken r f (without_advice cs) ≡ join_broken r f cs

@@ -18,9 +18,9 @@ use Rattle.semantics.specs.Translation.{undrawn, placed, once, unanswered_of, br
 use Rattle.semantics.proofs.Tests.{and_left, and_right, and_assoc, or_false}
 use Rattle.semantics.proofs.Names.{not_none, union_left, listed_left, listed_right, listed_less, besides}
 use Rattle.semantics.proofs.Cycles.{some_cong}
-use Rattle.semantics.proofs.Placed.{Stands, stands_narrower, placed-holds, once-holds}
-use Rattle.semantics.proofs.Formulas.{Says, says_as, and_is, or_is, not_is, chop-is, nothing_is, prefix-is, suffix-is, shortest_is, part-is, given_is}
-use Rattle.semantics.proofs.Ranges.{some_three, from_start, on-intervals, on-answers, and_some, some_and, swap}
+use Rattle.semantics.proofs.Placed.{Stands, stands_narrower, placed_holds, once_holds}
+use Rattle.semantics.proofs.Formulas.{Says, says_as, and_is, or_is, not_is, chop_is, nothing_is, prefix_is, suffix_is, shortest_is, part_is, given_is}
+use Rattle.semantics.proofs.Ranges.{some_three, from_start, on_intervals, on_answers, and_some, some_and, swap}
 use Rattle.semantics.proofs.Joined.{together, join}
 
 none_stand : (x y : ℕ) (μ : Marks) (ν : Placement) → Stands no_names x y μ ν
@@ -35,46 +35,46 @@ module _ (σ : Trace) (positive : 0 < length σ) where
   abbrev last : ℕ
   last = length σ - 1
 
-  placed-is : {x y : ℕ} (names K : Names) {f : Formula} (q : Placement → Bool) {μ : Marks} {ν : Placement} → y ≤ last → Stands K x y μ ν
+  placed_is : {x y : ℕ} (names K : Names) {f : Formula} (q : Placement → Bool) {μ : Marks} {ν : Placement} → y ≤ last → Stands K x y μ ν
       → ((μ' : Marks) (ν' : Placement) → Stands (union (listed names) K) x y μ' ν' → Says f σ μ' x y (q ν'))
       → Says (placed names f) σ μ x y (some_placement names x y ν q)
-  placed-is {x} {y} names K {f} q {μ} {ν} h s next =
-      record { same = placed-holds σ x y (omega arith) names K f q μ ν s (λ μ' ν' s'. (next μ' ν' s').same) }
+  placed_is {x} {y} names K {f} q {μ} {ν} h s next =
+      record { same = placed_holds σ x y (omega arith) names K f q μ ν s (λ μ' ν' s'. (next μ' ν' s').same) }
 
   once_is : {x y : ℕ} (names : Names) {K : Names} {f : Formula} {p : Bool} {μ : Marks} {ν : Placement} → ((u : ℕ) → listed names u ≡ true → K u ≡ true)
       → Stands K x y μ ν → Says f σ μ x y p → Says (once names f) σ μ x y (inside names x y ν && p)
   once_is {x} {y} names {f = f} {ν = ν} k s h =
-      record { same = once-holds σ s names f k ∙ ap (λ (p : Bool). inside names x y ν && p) h.same }
+      record { same = once_holds σ s names f k ∙ ap (λ (p : Bool). inside names x y ν && p) h.same }
 
   -- the names of the first part of a clause are placed with none standing before
-  first-given-is : {x y : ℕ} (d : Part) → fits d ≡ true → x ≤ y → y ≤ last
+  first_given_is : {x y : ℕ} (d : Part) → fits d ≡ true → x ≤ y → y ≤ last
       → Says (placed d.names (undrawn d.formula)) σ unmarked x y (given d.names unplaced d σ x y)
-  first-given-is {x} {y} d w l h =
+  first_given_is {x} {y} d w l h =
       given_is σ l (omega arith) d.names d w (union_left (listed d.names) no_names) (none_stand x y unmarked unplaced)
 
   pref_is : (d₁ d₂ d₃ : Part) → fits d₁ ≡ true
       → Says (broken_of pref (undrawn d₁.formula) d₁.names (undrawn d₂.formula) d₂.names (undrawn d₃.formula) d₃.names) σ unmarked 0 last
       (some_in 0 last (λ j. not (given d₁.names unplaced d₁ σ 0 j)))
   unfolding broken_of
-  pref_is d₁ d₂ d₃ w = prefix-is (λ j. not (given d₁.names unplaced d₁ σ 0 j)) (λ j l h. not_is (first-given-is d₁ w l h))
+  pref_is d₁ d₂ d₃ w = prefix_is (λ j. not (given d₁.names unplaced d₁ σ 0 j)) (λ j l h. not_is (first_given_is d₁ w l h))
 
-  anti-is : (d₁ d₂ d₃ : Part) → fits d₁ ≡ true
+  anti_is : (d₁ d₂ d₃ : Part) → fits d₁ ≡ true
       → Says (broken_of anti (undrawn d₁.formula) d₁.names (undrawn d₂.formula) d₂.names (undrawn d₃.formula) d₃.names) σ unmarked 0 last
       (some_in 0 last (λ i. some_in i last (λ j. given d₁.names unplaced d₁ σ i j)))
   unfolding broken_of
-  anti-is d₁ d₂ d₃ w =
-      suffix-is (λ i. some_in i last (λ j. given d₁.names unplaced d₁ σ i j))
-      (λ i a b. prefix-is (λ j. given d₁.names unplaced d₁ σ i j) (λ j l h. first-given-is d₁ w l h))
+  anti_is d₁ d₂ d₃ w =
+      suffix_is (λ i. some_in i last (λ j. given d₁.names unplaced d₁ σ i j))
+      (λ i a b. prefix_is (λ j. given d₁.names unplaced d₁ σ i j) (λ j l h. first_given_is d₁ w l h))
 
-  implies-is : (d₁ d₂ d₃ : Part) → fits d₁ ≡ true → fits d₂ ≡ true
+  implies_is : (d₁ d₂ d₃ : Part) → fits d₁ ≡ true → fits d₂ ≡ true
       → Says (broken_of implies (undrawn d₁.formula) d₁.names (undrawn d₂.formula) d₂.names (undrawn d₃.formula) d₃.names) σ unmarked 0 last
       (some_in 0 last (λ i. some_in i last (λ j. some_placement d₁.names i j unplaced (λ ν. on d₁ σ ν i j && not (given (without d₂.names d₁.names) ν d₂ σ i j)))))
   unfolding broken_of
-  implies-is d₁ d₂ d₃ w₁ w₂ =
-      suffix-is (λ i. some_in i last (λ j. some_placement Θ₁ i j unplaced (λ ν. on d₁ σ ν i j && not (given rest ν d₂ σ i j))))
-      (λ i a b. prefix-is (λ j. some_placement Θ₁ i j unplaced (λ ν. on d₁ σ ν i j && not (given rest ν d₂ σ i j)))
-      (λ j l h. placed-is Θ₁ no_names (λ ν. on d₁ σ ν i j && not (given rest ν d₂ σ i j)) h (none_stand i j unmarked unplaced)
-      (λ μ ν s. and_is (part-is σ l (omega arith) d₁ w₁ own s)
+  implies_is d₁ d₂ d₃ w₁ w₂ =
+      suffix_is (λ i. some_in i last (λ j. some_placement Θ₁ i j unplaced (λ ν. on d₁ σ ν i j && not (given rest ν d₂ σ i j))))
+      (λ i a b. prefix_is (λ j. some_placement Θ₁ i j unplaced (λ ν. on d₁ σ ν i j && not (given rest ν d₂ σ i j)))
+      (λ j l h. placed_is Θ₁ no_names (λ ν. on d₁ σ ν i j && not (given rest ν d₂ σ i j)) h (none_stand i j unmarked unplaced)
+      (λ μ ν s. and_is (part_is σ l (omega arith) d₁ w₁ own s)
       (not_is (given_is σ l (omega arith) rest d₂ w₂ (besides d₂.names Θ₁ (union (listed Θ₁) no_names) own) s)))))
     where
       Θ₁ : Names
@@ -86,15 +86,15 @@ module _ (σ : Trace) (positive : 0 < length σ) where
       own : (u : ℕ) → listed Θ₁ u ≡ true → union (listed Θ₁) no_names u ≡ true
       own = union_left (listed Θ₁) no_names
 
-  init-is : (d₁ d₂ d₃ : Part) → fits d₁ ≡ true → fits d₂ ≡ true
+  init_is : (d₁ d₂ d₃ : Part) → fits d₁ ≡ true → fits d₂ ≡ true
       → Says (broken_of init (undrawn d₁.formula) d₁.names (undrawn d₂.formula) d₂.names (undrawn d₃.formula) d₃.names) σ unmarked 0 last
       (some_in 0 last (λ j. some_placement d₂.names 0 j unplaced (λ ν. on d₂ σ ν 0 j && not (some_in 0 j (λ l. given (without d₁.names d₂.names) ν d₁ σ 0 l)))))
   unfolding broken_of
-  init-is d₁ d₂ d₃ w₁ w₂ =
-      prefix-is (λ j. some_placement Θ₂ 0 j unplaced (λ ν. on d₂ σ ν 0 j && not (some_in 0 j (λ l. given rest ν d₁ σ 0 l))))
-      (λ j l h. placed-is Θ₂ no_names (λ ν. on d₂ σ ν 0 j && not (some_in 0 j (λ l. given rest ν d₁ σ 0 l))) h (none_stand 0 j unmarked unplaced)
-      (λ μ ν s. and_is (part-is σ l (omega arith) d₂ w₂ own s)
-      (not_is (prefix-is (λ l. given rest ν d₁ σ 0 l)
+  init_is d₁ d₂ d₃ w₁ w₂ =
+      prefix_is (λ j. some_placement Θ₂ 0 j unplaced (λ ν. on d₂ σ ν 0 j && not (some_in 0 j (λ l. given rest ν d₁ σ 0 l))))
+      (λ j l h. placed_is Θ₂ no_names (λ ν. on d₂ σ ν 0 j && not (some_in 0 j (λ l. given rest ν d₁ σ 0 l))) h (none_stand 0 j unmarked unplaced)
+      (λ μ ν s. and_is (part_is σ l (omega arith) d₂ w₂ own s)
+      (not_is (prefix_is (λ l. given rest ν d₁ σ 0 l)
       (λ t a b. given_is σ a (omega arith) rest d₁ w₁ (besides d₁.names Θ₂ (union (listed Θ₂) no_names) own) (stands_narrower 0 t (omega arith) b s))))))
     where
       Θ₂ : Names
@@ -115,34 +115,34 @@ module _ (σ : Trace) (positive : 0 < length σ) where
     K₁₃ = union (listed Θ₁₃) no_names
 
     -- D1 with its names inside
-    abbrev firstOn : Placement → ℕ → ℕ → Bool
-    firstOn ν i j = inside d₁.names i j ν && on d₁ σ ν i j
+    abbrev first_on : Placement → ℕ → ℕ → Bool
+    first_on ν i j = inside d₁.names i j ν && on d₁ σ ν i j
 
     -- the names of D3 inside that D1 lacks, and unmet
-    abbrev unmetOn : Placement → ℕ → ℕ → Bool
-    unmetOn ν s k = inside (without d₃.names d₁.names) s k ν && unmet d₁ d₂ d₃ σ s k ν
+    abbrev unmet_on : Placement → ℕ → ℕ → Bool
+    unmet_on ν s k = inside (without d₃.names d₁.names) s k ν && unmet d₁ d₂ d₃ σ s k ν
 
-    first-stand : (u : ℕ) → listed d₁.names u ≡ true → K₁₃ u ≡ true
-    first-stand u h = union_left (listed Θ₁₃) no_names u (listed_left d₁.names d₃.names u h)
+    first_stand : (u : ℕ) → listed d₁.names u ≡ true → K₁₃ u ≡ true
+    first_stand u h = union_left (listed Θ₁₃) no_names u (listed_left d₁.names d₃.names u h)
 
-    third-stand : (u : ℕ) → listed d₃.names u ≡ true → K₁₃ u ≡ true
-    third-stand u h = union_left (listed Θ₁₃) no_names u (listed_right d₁.names d₃.names u h)
+    third_stand : (u : ℕ) → listed d₃.names u ≡ true → K₁₃ u ≡ true
+    third_stand u h = union_left (listed Θ₁₃) no_names u (listed_right d₁.names d₃.names u h)
 
-    first-is : {μ : Marks} {ν : Placement} (i j : ℕ) → i ≤ j → j ≤ last → Stands K₁₃ i j μ ν
-        → Says (once d₁.names (undrawn d₁.formula)) σ μ i j (firstOn ν i j)
-    first-is i j l h s = once_is d₁.names first-stand s (part-is σ l (omega arith) d₁ w₁ first-stand s)
+    first_is_lem : {μ : Marks} {ν : Placement} (i j : ℕ) → i ≤ j → j ≤ last → Stands K₁₃ i j μ ν
+        → Says (once d₁.names (undrawn d₁.formula)) σ μ i j (first_on ν i j)
+    first_is_lem i j l h s = once_is d₁.names first_stand s (part_is σ l (omega arith) d₁ w₁ first_stand s)
 
-    unmet-is : {μ : Marks} {ν : Placement} (s k : ℕ) → s ≤ k → k ≤ last → Stands K₁₃ s k μ ν
-        → Says (unanswered_of d₁.names (undrawn d₂.formula) d₂.names (undrawn d₃.formula) d₃.names) σ μ s k (unmetOn ν s k)
+    unmet_is : {μ : Marks} {ν : Placement} (s k : ℕ) → s ≤ k → k ≤ last → Stands K₁₃ s k μ ν
+        → Says (unanswered_of d₁.names (undrawn d₂.formula) d₂.names (undrawn d₃.formula) d₃.names) σ μ s k (unmet_on ν s k)
     unfolding unanswered_of shortest
-    unmet-is {ν = ν} s k l h st =
+    unmet_is {ν = ν} s k l h st =
         let rest = without d₃.names d₁.names in
         let last₂ = without d₂.names Θ₁₃ in
         says_as (sym (and_assoc (inside rest s k ν) (shortest d₃ σ ν s k) (not (some_in s k (λ l. given last₂ ν d₂ σ s l)))))
         (and_is
-        (once_is rest (λ u e. third-stand u (listed_less d₃.names d₁.names u e).0) st
-        (shortest_is (λ z. on d₃ σ ν s z) l (λ z a b. part-is σ a (omega arith) d₃ w₃ third-stand (stands_narrower s z (omega arith) b st))))
-        (not_is (prefix-is (λ l. given last₂ ν d₂ σ s l)
+        (once_is rest (λ u e. third_stand u (listed_less d₃.names d₁.names u e).0) st
+        (shortest_is (λ z. on d₃ σ ν s z) l (λ z a b. part_is σ a (omega arith) d₃ w₃ third_stand (stands_narrower s z (omega arith) b st))))
+        (not_is (prefix_is (λ l. given last₂ ν d₂ σ s l)
         (λ z a b. given_is σ a (omega arith) last₂ d₂ w₂ (besides d₂.names Θ₁₃ K₁₃ (union_left (listed Θ₁₃) no_names))
         (stands_narrower s z (omega arith) b st)))))
 
@@ -171,76 +171,76 @@ module _ (σ : Trace) (positive : 0 < length σ) where
         (some_in 0 last (λ i. some_in i last (λ j. some_in j last (λ k. unanswered d₁ d₂ d₃ σ i j j k))))
     unfolding broken_of
     follows_is =
-        suffix-is (λ i. some_in i last (λ j. some_in j last (λ k. unanswered d₁ d₂ d₃ σ i j j k)))
+        suffix_is (λ i. some_in i last (λ j. some_in j last (λ k. unanswered d₁ d₂ d₃ σ i j j k)))
         (λ i a b. says_as (answers i (λ j. j) (λ j l. l))
-        (placed-is Θ₁₃ no_names
+        (placed_is Θ₁₃ no_names
         (λ ν. some_in i last (λ j. some_in j last (λ k. together d₁ d₃.names σ i j j k (unmet d₁ d₂ d₃ σ j k) ν)))
         (omega arith) (none_stand i last unmarked unplaced)
         (λ μ ν s. says_as
         (some_cong i (suc last)
-        (λ j. firstOn ν i j
-        && some_in j last (λ k. unmetOn ν j k))
+        (λ j. first_on ν i j
+        && some_in j last (λ k. unmet_on ν j k))
         (λ j. some_in j last (λ k. together d₁ d₃.names σ i j j k (unmet d₁ d₂ d₃ σ j k) ν))
-        (λ j l h. and_some (firstOn ν i j) j (suc last)
-        (λ k. unmetOn ν j k)))
-        (chop-is (λ j. firstOn ν i j)
-        (λ j. some_in j last (λ k. unmetOn ν j k))
-        (λ j l h. first-is i j l h (stands_narrower i j (omega arith) h s))
-        (λ j l h. prefix-is (λ k. unmetOn ν j k)
-        (λ k p q. unmet-is j k p q (stands_narrower j k l q s)))))))
+        (λ j l h. and_some (first_on ν i j) j (suc last)
+        (λ k. unmet_on ν j k)))
+        (chop_is (λ j. first_on ν i j)
+        (λ j. some_in j last (λ k. unmet_on ν j k))
+        (λ j l h. first_is_lem i j l h (stands_narrower i j (omega arith) h s))
+        (λ j l h. prefix_is (λ k. unmet_on ν j k)
+        (λ k p q. unmet_is j k p q (stands_narrower j k l q s)))))))
 
-    triggers-is : Says (broken_of triggers (undrawn d₁.formula) d₁.names (undrawn d₂.formula) d₂.names (undrawn d₃.formula) d₃.names) σ unmarked 0 last
+    triggers_is : Says (broken_of triggers (undrawn d₁.formula) d₁.names (undrawn d₂.formula) d₂.names (undrawn d₃.formula) d₃.names) σ unmarked 0 last
         (some_in 0 last (λ i. some_in i last (λ j. some_in i last (λ k. unanswered d₁ d₂ d₃ σ i j i k))))
     unfolding broken_of
-    triggers-is =
-        suffix-is (λ i. some_in i last (λ j. some_in i last (λ k. unanswered d₁ d₂ d₃ σ i j i k)))
+    triggers_is =
+        suffix_is (λ i. some_in i last (λ j. some_in i last (λ k. unanswered d₁ d₂ d₃ σ i j i k)))
         (λ i a b. says_as (answers i (λ j. i) (λ j l. omega arith))
-        (placed-is Θ₁₃ no_names
+        (placed_is Θ₁₃ no_names
         (λ ν. some_in i last (λ j. some_in i last (λ k. together d₁ d₃.names σ i j i k (unmet d₁ d₂ d₃ σ i k) ν)))
         (omega arith) (none_stand i last unmarked unplaced)
         (λ μ ν s. says_as
-        (some_and (some_in i last (λ k. unmetOn ν i k)) i (suc last)
-        (λ j. firstOn ν i j)
+        (some_and (some_in i last (λ k. unmet_on ν i k)) i (suc last)
+        (λ j. first_on ν i j)
         ∙ some_cong i (suc last)
-        (λ j. firstOn ν i j
-        && some_in i last (λ k. unmetOn ν i k))
+        (λ j. first_on ν i j
+        && some_in i last (λ k. unmet_on ν i k))
         (λ j. some_in i last (λ k. together d₁ d₃.names σ i j i k (unmet d₁ d₂ d₃ σ i k) ν))
-        (λ j l h. and_some (firstOn ν i j) i (suc last)
-        (λ k. unmetOn ν i k)))
+        (λ j l h. and_some (first_on ν i j) i (suc last)
+        (λ k. unmet_on ν i k)))
         (and_is
-        (prefix-is (λ j. firstOn ν i j)
-        (λ j l h. first-is i j l h (stands_narrower i j (omega arith) h s)))
-        (prefix-is (λ k. unmetOn ν i k)
-        (λ k p q. unmet-is i k p q (stands_narrower i k (omega arith) q s)))))))
+        (prefix_is (λ j. first_on ν i j)
+        (λ j l h. first_is_lem i j l h (stands_narrower i j (omega arith) h s)))
+        (prefix_is (λ k. unmet_on ν i k)
+        (λ k p q. unmet_is i k p q (stands_narrower i k (omega arith) q s)))))))
 
-  type-is : (κ : ClauseType) (d₁ d₂ d₃ : Part) → parts_fit κ d₁ d₂ d₃ ≡ true
+  type_is : (κ : ClauseType) (d₁ d₂ d₃ : Part) → parts_fit κ d₁ d₂ d₃ ≡ true
       → Says (broken_of κ (undrawn d₁.formula) d₁.names (undrawn d₂.formula) d₂.names (undrawn d₃.formula) d₃.names) σ unmarked 0 last
       (some_three (length σ) (breaks_at κ d₁ d₂ d₃ σ))
   unfolding parts_fit breaks_at
-  type-is pref d₁ d₂ d₃ w =
+  type_is pref d₁ d₂ d₃ w =
       says_as (sym (from_start (length σ) positive (λ j. not (given d₁.names unplaced d₁ σ 0 j)))) (pref_is d₁ d₂ d₃ w)
-  type-is init d₁ d₂ d₃ w =
+  type_is init d₁ d₂ d₃ w =
       says_as (sym (from_start (length σ) positive
       (λ j. some_placement d₂.names 0 j unplaced (λ ν. on d₂ σ ν 0 j && not (some_in 0 j (λ l. given (without d₁.names d₂.names) ν d₁ σ 0 l))))))
-      (init-is d₁ d₂ d₃ (and_left (fits d₁) (fits d₂) w) (and_right (fits d₁) (fits d₂) w))
-  type-is anti d₁ d₂ d₃ w =
-      says_as (sym (on-intervals (length σ) positive (λ i j. given d₁.names unplaced d₁ σ i j))) (anti-is d₁ d₂ d₃ w)
-  type-is implies d₁ d₂ d₃ w =
-      says_as (sym (on-intervals (length σ) positive
+      (init_is d₁ d₂ d₃ (and_left (fits d₁) (fits d₂) w) (and_right (fits d₁) (fits d₂) w))
+  type_is anti d₁ d₂ d₃ w =
+      says_as (sym (on_intervals (length σ) positive (λ i j. given d₁.names unplaced d₁ σ i j))) (anti_is d₁ d₂ d₃ w)
+  type_is implies d₁ d₂ d₃ w =
+      says_as (sym (on_intervals (length σ) positive
       (λ i j. some_placement d₁.names i j unplaced (λ ν. on d₁ σ ν i j && not (given (without d₂.names d₁.names) ν d₂ σ i j)))))
-      (implies-is d₁ d₂ d₃ (and_left (fits d₁) (fits d₂) w) (and_right (fits d₁) (fits d₂) w))
-  type-is follows d₁ d₂ d₃ w =
+      (implies_is d₁ d₂ d₃ (and_left (fits d₁) (fits d₂) w) (and_right (fits d₁) (fits d₂) w))
+  type_is follows d₁ d₂ d₃ w =
       let r = and_right (fits d₁) (fits d₂ && fits d₃) w in
-      says_as (sym (on-answers (length σ) positive (λ i j. j) (λ i j k. unanswered d₁ d₂ d₃ σ i j j k)))
+      says_as (sym (on_answers (length σ) positive (λ i j. j) (λ i j k. unanswered d₁ d₂ d₃ σ i j j k)))
       (follows_is d₁ d₂ d₃ (and_left (fits d₁) (fits d₂ && fits d₃) w) (and_left (fits d₂) (fits d₃) r) (and_right (fits d₂) (fits d₃) r))
-  type-is triggers d₁ d₂ d₃ w =
+  type_is triggers d₁ d₂ d₃ w =
       let r = and_right (fits d₁) (fits d₂ && fits d₃) w in
-      says_as (sym (on-answers (length σ) positive (λ i j. i) (λ i j k. unanswered d₁ d₂ d₃ σ i j i k)))
-      (triggers-is d₁ d₂ d₃ (and_left (fits d₁) (fits d₂ && fits d₃) w) (and_left (fits d₂) (fits d₃) r) (and_right (fits d₂) (fits d₃) r))
+      says_as (sym (on_answers (length σ) positive (λ i j. i) (λ i j k. unanswered d₁ d₂ d₃ σ i j i k)))
+      (triggers_is d₁ d₂ d₃ (and_left (fits d₁) (fits d₂ && fits d₃) w) (and_left (fits d₂) (fits d₃) r) (and_right (fits d₂) (fits d₃) r))
 
-  clause-is : (c : Clause) → clause_fits c ≡ true → Says (broken_clause c) σ unmarked 0 last (fails c σ)
+  clause_is : (c : Clause) → clause_fits c ≡ true → Says (broken_clause c) σ unmarked 0 last (fails c σ)
   unfolding clause_fits broken_clause fails breaks some_three
-  clause-is c w = type-is c.type c.first c.second c.third w
+  clause_is c w = type_is c.type c.first c.second c.third w
 
   joined_is : (r : Role) (cs : List Clause) (f : Formula) (p : Bool) → all_fit cs ≡ true → Says f σ unmarked 0 last p
       → Says (join_broken r f cs) σ unmarked 0 last (p || some_fails r cs σ)
@@ -258,7 +258,7 @@ module _ (σ : Trace) (positive : 0 < length σ) where
           → Says (join_broken r (cond a (disjunction f (broken_clause c)) f) cs) σ unmarked 0 last (p || (a && fails c σ || some_fails r cs σ))
       go true rest =
           says_as (regroup p (fails c σ) (some_fails r cs σ))
-          (rest (disjunction f (broken_clause c)) (p || fails c σ) (or_is s (clause-is c (and_left (clause_fits c) (all_fit cs) w))))
+          (rest (disjunction f (broken_clause c)) (p || fails c σ) (or_is s (clause_is c (and_left (clause_fits c) (all_fit cs) w))))
       go false rest = rest f p s
 
   pub agreement : (cs : List Clause) → all_fit cs ≡ true → true_of (translation cs) σ ≡ requirement cs σ

@@ -57,7 +57,7 @@ within_wider h (drawn s k) e = refl
 within_wider h (at u) e = h u e
 within_wider {K} {L} h (gap u v least most) e = both (h u (and_left (K u) (K v) e)) (h v (and_right (K u) (K v) e))
 within_wider h (negation f) e = within_wider h f e
-within_wider h (for_some u f) e = within_wider (with_more u h) f e
+within_wider {K} {L} h (for_some u f) e = within_wider {K = with u K} {L = with u L} (with_more u h) f e
 
 -- ---- drawings told by other formulas
 symbol_within : (K : Names) (s : Symbol) (k : ℕ) → within K (undrawn_symbol s k) ≡ true
@@ -233,7 +233,7 @@ join_within : (r : Role) (f : Formula) (cs : List Clause) → all_fit cs ≡ tru
 unfolding all_fit join_broken clause_fits broken_clause within
 join_within r f [] w e = e
 join_within r f (c ∷ cs) w e =
-    join_within r _ cs (and_right (clause_fits c) (all_fit cs) w)
+    join_within r (cond (has_role r c) (disjunction f (broken_clause c)) f) cs (and_right (clause_fits c) (all_fit cs) w)
     (go (has_role r c) (broken_within c.type c.first c.second c.third (and_left (clause_fits c) (all_fit cs) w)))
   where
     go : (a : Bool) → within no_names (broken_clause c) ≡ true → within no_names (cond a (disjunction f (broken_clause c)) f) ≡ true

@@ -102,14 +102,14 @@ local {b = b} {e} {σ} {μ} {σ'} {μ'} (whole p) w o a =
 local {b = b} {e} (unit p) w o a = ap (λ (r : Bool). eqb e (b + 1) && r) (at_local p w a b (omega arith) o)
 local {K} {b} {e} {σ} {μ} {σ'} {μ'} (chop f g) w o a =
     some_cong b (suc e) (λ i. holds f σ μ b i && holds g σ μ i e) (λ i. holds f σ' μ' b i && holds g σ' μ' i e)
-    (λ i l h. ap₂ ◌&&◌ (local f (and_left (within K f) (within K g) w) l (narrower b i (omega arith) (omega arith) a))
-    (local g (and_right (within K f) (within K g) w) (omega arith) (narrower i e l (omega arith) a)))
+    (λ i l h. ap₂ ◌&&◌ (local {e = i} f (and_left (within K f) (within K g) w) l (narrower b i (omega arith) (omega arith) a))
+    (local {b = i} g (and_right (within K f) (within K g) w) (omega arith) (narrower i e l (omega arith) a)))
 local {K} (conjunction f g) w o a =
     ap₂ ◌&&◌ (local f (and_left (within K f) (within K g) w) o a) (local g (and_right (within K f) (within K g) w) o a)
 local {K} (disjunction f g) w o a =
     ap₂ ◌||◌ (local f (and_left (within K f) (within K g) w) o a) (local g (and_right (within K f) (within K g) w) o a)
 local {b = b} {e} {σ} {μ} {σ'} {μ'} (star f) w o a =
-    chain_cong (e - b) (holds f σ μ) (holds f σ' μ') b e (λ x y l m h. local f w m (narrower x y l h a))
+    chain_cong (e - b) (holds f σ μ) (holds f σ' μ') b e (λ x y l m h. local {b = x} {e = y} f w m (narrower x y l h a))
 local (slen c n) w o a = refl
 local {b = b} {e} {σ} {μ} {σ'} {μ'} (scount c p n) w o a =
     ap (λ (r : ℕ). compared c r n)
@@ -133,7 +133,7 @@ local {K} {b} {e} {σ} {μ} {σ'} {μ'} (for_some u f) w o a =
     same (some_column (length σ) (λ c. holds f σ (mark u c μ) b e)) (some_column (length σ') (λ c. holds f σ' (mark u c μ') b e))
     (λ h. let c = column_elim (length σ) (λ c. holds f σ (mark u c μ) b e) h in
     column_intro (length σ') (λ c. holds f σ' (mark u c μ') b e) (λ t. get_or c.0 t false)
-    (sym (local f w o (marked u c.0 a)) ∙ c.1))
+    (sym (local {K = with u K} {μ = mark u c.0 μ} {μ' = mark u (column (length σ') (λ t. get_or c.0 t false)) μ'} f w o (marked u c.0 a)) ∙ c.1))
     (λ h. let c = column_elim (length σ') (λ c. holds f σ' (mark u c μ') b e) h in
     column_intro (length σ) (λ c. holds f σ (mark u c μ) b e) (λ t. get_or c.0 t false)
-    (sym (local f w o (marked u c.0 (turned a))) ∙ c.1))
+    (sym (local {K = with u K} {σ = σ'} {μ = mark u c.0 μ'} {σ' = σ} {μ' = mark u (column (length σ) (λ t. get_or c.0 t false)) μ} f w o (marked u c.0 (turned a))) ∙ c.1))

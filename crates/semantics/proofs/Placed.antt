@@ -84,10 +84,10 @@ the_mark x y m w i l h =
 
 module _ (σ : Trace) (x y : ℕ) (i : y < length σ) where
   -- a name with a column of its own
-  placed-free : (u : ℕ) (names K : Names) (f : Formula) (q : Placement → Bool) (μ : Marks) (ν : Placement) → Stands K x y μ ν
+  placed_free : (u : ℕ) (names K : Names) (f : Formula) (q : Placement → Bool) (μ : Marks) (ν : Placement) → Stands K x y μ ν
       → ((μ' : Marks) (ν' : Placement) → Stands (adding u names K) x y μ' ν' → holds f σ μ' x y ≡ q ν')
       → some_column (length σ) (λ c. eqb (count_in x y (mark u c μ u)) 1 && holds f σ (mark u c μ) x y) ≡ some_in x y (λ t. q (moved u t ν))
-  placed-free u names K f q μ ν s next =
+  placed_free u names K f q μ ν s next =
       same (some_column (length σ) (λ c. eqb (count_in x y (mark u c μ u)) 1 && holds f σ (mark u c μ) x y)) (some_in x y (λ t. q (moved u t ν)))
       (λ h. let w = column_elim (length σ) (λ c. eqb (count_in x y (mark u c μ u)) 1 && holds f σ (mark u c μ) x y) h in from w.0 w.1)
       (λ h. let w = some_elim x (suc y) (λ t. q (moved u t ν)) h in to w.at w.low (omega (arith, w.high)) w.ok)
@@ -113,27 +113,27 @@ module _ (σ : Trace) (x y : ℕ) (i : y < length σ) where
           (next (mark u c μ) (moved u t ν) (stands_marked u names c t s own) ∙ p))
 
   -- one name
-  placed-name : (u : ℕ) (names K : Names) (f : Formula) (q : Placement → Bool) (μ : Marks) (ν : Placement) → Stands K x y μ ν
+  placed_name_lem : (u : ℕ) (names K : Names) (f : Formula) (q : Placement → Bool) (μ : Marks) (ν : Placement) → Stands K x y μ ν
       → ((μ' : Marks) (ν' : Placement) → Stands (adding u names K) x y μ' ν' → holds f σ μ' x y ≡ q ν')
       → holds (placed_name u names f) σ μ x y ≡ place_name u names x y ν q
   unfolding placed_name place_name holds holds_at compared
-  placed-name u names K f q μ ν s next = go (names u) refl
+  placed_name_lem u names K f q μ ν s next = go (names u) refl
     where
       go : (a : Bool) → names u ≡ a
           → holds (cond a (for_some u (conjunction (scount equal (name u) 1) f)) f) σ μ x y ≡ cond a (some_in x y (λ t. q (moved u t ν))) (q ν)
-      go true e = placed-free u names K f q μ ν s next
+      go true e = placed_free u names K f q μ ν s next
       go false e = next μ ν (stands_adding u names (λ h. absurd (true≢false (sym h ∙ e))) s)
 
   -- the three names; `K` holds the names that stand already
-  pub placed-holds : (names K : Names) (f : Formula) (q : Placement → Bool) (μ : Marks) (ν : Placement) → Stands K x y μ ν
+  pub placed_holds : (names K : Names) (f : Formula) (q : Placement → Bool) (μ : Marks) (ν : Placement) → Stands K x y μ ν
       → ((μ' : Marks) (ν' : Placement) → Stands (union (listed names) K) x y μ' ν' → holds f σ μ' x y ≡ q ν')
       → holds (placed names f) σ μ x y ≡ some_placement names x y ν q
   unfolding placed some_placement union listed adding
-  placed-holds names K f q μ ν s next =
-      placed-name 0 names K (placed_name 1 names (placed_name 2 names f))
+  placed_holds names K f q μ ν s next =
+      placed_name_lem 0 names K (placed_name 1 names (placed_name 2 names f))
       (λ ν₀. place_name 1 names x y ν₀ (λ ν₁. place_name 2 names x y ν₁ q)) μ ν s
-      (λ μ₀ ν₀ s₀. placed-name 1 names (adding 0 names K) (placed_name 2 names f) (λ ν₁. place_name 2 names x y ν₁ q) μ₀ ν₀ s₀
-      (λ μ₁ ν₁ s₁. placed-name 2 names (adding 1 names (adding 0 names K)) f q μ₁ ν₁ s₁
+      (λ μ₀ ν₀ s₀. placed_name_lem 1 names (adding 0 names K) (placed_name 2 names f) (λ ν₁. place_name 2 names x y ν₁ q) μ₀ ν₀ s₀
+      (λ μ₁ ν₁ s₁. placed_name_lem 2 names (adding 1 names (adding 0 names K)) f q μ₁ ν₁ s₁
       (λ μ₂ ν₂ s₂. next μ₂ ν₂ (stands_fewer (union (listed names) K) all s₂))))
     where
       all : (u : ℕ) → union (listed names) K u ≡ true → adding 2 names (adding 1 names (adding 0 names K)) u ≡ true
@@ -145,21 +145,21 @@ module _ (σ : Trace) (x y : ℕ) (i : y < length σ) where
 
 -- a name that stands already has one mark on the interval if it stands in it
 module _ (σ : Trace) {x y : ℕ} {K : Names} {μ : Marks} {ν : Placement} (s : Stands K x y μ ν) (names : Names) where
-  once-name : (u : ℕ) (f : Formula) → (names u ≡ true → K u ≡ true) → holds (once_name u names f) σ μ x y ≡ (inside_name u names x y ν && holds f σ μ x y)
+  once_name_lem : (u : ℕ) (f : Formula) → (names u ≡ true → K u ≡ true) → holds (once_name u names f) σ μ x y ≡ (inside_name u names x y ν && holds f σ μ x y)
   unfolding once_name inside_name holds holds_at compared
-  once-name u f k = go (names u) k
+  once_name_lem u f k = go (names u) k
     where
       go : (a : Bool) → (a ≡ true → K u ≡ true)
           → holds (cond a (conjunction (scount equal (name u) 1) f) f) σ μ x y ≡ ((not a || leb x (ν u) && leb (ν u) y) && holds f σ μ x y)
       go true k = ap (λ (b : Bool). b && holds f σ μ x y) (one_inside x y (ν u) (μ u) (s.alike u (k refl)))
       go false k = refl
 
-  pub once-holds : (f : Formula) → ((u : ℕ) → listed names u ≡ true → K u ≡ true) → holds (once names f) σ μ x y ≡ (inside names x y ν && holds f σ μ x y)
+  pub once_holds : (f : Formula) → ((u : ℕ) → listed names u ≡ true → K u ≡ true) → holds (once names f) σ μ x y ≡ (inside names x y ν && holds f σ μ x y)
   unfolding once inside listed
-  once-holds f k =
-      once-name 0 (once_name 1 names (once_name 2 names f)) (k 0)
-      ∙ ap (λ (b : Bool). inside_name 0 names x y ν && b) (once-name 1 (once_name 2 names f) (k 1))
-      ∙ ap (λ (b : Bool). inside_name 0 names x y ν && (inside_name 1 names x y ν && b)) (once-name 2 f (k 2))
+  once_holds f k =
+      once_name_lem 0 (once_name 1 names (once_name 2 names f)) (k 0)
+      ∙ ap (λ (b : Bool). inside_name 0 names x y ν && b) (once_name_lem 1 (once_name 2 names f) (k 1))
+      ∙ ap (λ (b : Bool). inside_name 0 names x y ν && (inside_name 1 names x y ν && b)) (once_name_lem 2 f (k 2))
       ∙ regroup (inside_name 0 names x y ν) (inside_name 1 names x y ν) (inside_name 2 names x y ν) (holds f σ μ x y)
     where
       regroup : (a b c d : Bool) → a && (b && (c && d)) ≡ (a && (b && c) && d)

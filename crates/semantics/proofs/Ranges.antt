@@ -68,9 +68,9 @@ module _ (n : ℕ) (positive : 0 < n) where
       }))
 
   -- i is at most j and k is j
-  pub on-intervals : (p : ℕ → ℕ → Bool)
+  pub on_intervals : (p : ℕ → ℕ → Bool)
       → some_three n (λ i j k. leb i j && eqb k j && p i j) ≡ some_in 0 (n - 1) (λ i. some_in i (n - 1) (p i))
-  on-intervals p =
+  on_intervals p =
       same (some_three n (λ i j k. leb i j && eqb k j && p i j)) (some_in 0 (n - 1) (λ i. some_in i (n - 1) (p i)))
       (λ h. let w = three_elim n (λ i j k. leb i j && eqb k j && p i j) h in
       let l = leb-true w.i w.j (and_left (leb w.i w.j) (eqb w.k w.j)
@@ -95,10 +95,10 @@ module _ (n : ℕ) (positive : 0 < n) where
       }))
 
   -- i is at most j, and k is at or after the cycle at which the answer starts
-  pub on-answers : (start : ℕ → ℕ → ℕ) (p : ℕ → ℕ → ℕ → Bool)
+  pub on_answers : (start : ℕ → ℕ → ℕ) (p : ℕ → ℕ → ℕ → Bool)
       → some_three n (λ i j k. leb i j && leb (start i j) k && p i j k)
       ≡ some_in 0 (n - 1) (λ i. some_in i (n - 1) (λ j. some_in (start i j) (n - 1) (p i j)))
-  on-answers start p =
+  on_answers start p =
       same (some_three n (λ i j k. leb i j && leb (start i j) k && p i j k))
       (some_in 0 (n - 1) (λ i. some_in i (n - 1) (λ j. some_in (start i j) (n - 1) (p i j))))
       (λ h. let w = three_elim n (λ i j k. leb i j && leb (start i j) k && p i j k) h in

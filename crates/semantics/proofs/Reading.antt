@@ -107,10 +107,10 @@ module _ (d : Part) (σ : Trace) (fit : fits d ≡ true) (x y : ℕ) (o : x ≤ 
       (over_agrees before d.names x y ν ν' w.over equal)
       (on_local d σ (put_over d.names ν' ν) ν' x y fit o i (over_on d.names ν' ν) ∙ w.ok)
 
-  pub given-from : given (without d.names before) ν d σ x y ≡ true
+  pub given_from : given (without d.names before) ν d σ x y ≡ true
       → (ν' : Placement) × (On before d σ x y ν') × ((u : ℕ) → listed d.names u ≡ true → before u ≡ true → ν' u ≡ ν u)
   unfolding given
-  given-from h =
+  given_from h =
       let w = placement_elim (without d.names before) x y ν (λ ν'. on d σ ν' x y) h in (
         w.to,
         record { over = λ u l b. w.agreeing.inside u (less_listed d.names before u l b); ok = w.ok },
@@ -174,9 +174,9 @@ module _ (d₁ d₂ d₃ : Part) (σ : Trace) (fit₁ : fits d₁ ≡ true) (fit
   unmet : Placement → Bool
   unmet ν = shortest d₃ σ ν s k && not (some_in s k (λ l. given (without Θ₂ (union Θ₁ Θ₃)) ν d₂ σ s l))
 
-  unanswered-to : Unanswered d₁ d₂ d₃ σ i j s k → unanswered d₁ d₂ d₃ σ i j s k ≡ true
+  unanswered_to : Unanswered d₁ d₂ d₃ σ i j s k → unanswered d₁ d₂ d₃ σ i j s k ≡ true
   unfolding unanswered unmet
-  unanswered-to w =
+  unanswered_to w =
       first_to d₁ σ fit₁ i j ij jn (λ ν. some_placement (without Θ₃ Θ₁) s k ν unmet) w.ν₁ w.first
       (placement_intro (without Θ₃ Θ₁) s k base unmet ν (over_agrees Θ₁ Θ₃ s k base w.ν₃ w.third.here.over shared)
       (and_intro (shortest d₃ σ ν s k) (not (some_in s k (λ l. given (without Θ₂ (union Θ₁ Θ₃)) ν d₂ σ s l)))
@@ -207,14 +207,14 @@ module _ (d₁ d₂ d₃ : Part) (σ : Trace) (fit₁ : fits d₁ ≡ true) (fit
       answered : some_in s k (λ l. given (without Θ₂ (union Θ₁ Θ₃)) ν d₂ σ s l) ≡ true → ⊥
       answered h =
           let v = some_elim s (suc k) (λ l. given (without Θ₂ (union Θ₁ Θ₃)) ν d₂ σ s l) h in
-          let g = given-from d₂ σ fit₂ s v.at v.low (omega (arith, v.high)) (union Θ₁ Θ₃) ν v.ok in
+          let g = given_from d₂ σ fit₂ s v.at v.low (omega (arith, v.high)) (union Θ₁ Θ₃) ν v.ok in
           w.nobody v.at v.low (omega (arith, v.high)) g.0 g.1
           (λ u a b. sym (on₁ u a) ∙ sym (g.2 u b (union_left Θ₁ Θ₃ u (listed_is Θ₁ u a))))
           (λ u a b. sym (on₃ u a) ∙ sym (g.2 u b (union_right Θ₁ Θ₃ u (listed_is Θ₃ u a))))
 
-  unanswered-from : unanswered d₁ d₂ d₃ σ i j s k ≡ true → Unanswered d₁ d₂ d₃ σ i j s k
+  unanswered_from : unanswered d₁ d₂ d₃ σ i j s k ≡ true → Unanswered d₁ d₂ d₃ σ i j s k
   unfolding unanswered unmet
-  unanswered-from h =
+  unanswered_from h =
       let first = first_from d₁ σ i j (λ ν. some_placement (without Θ₃ Θ₁) s k ν unmet) h in
       let w = placement_elim (without Θ₃ Θ₁) s k first.0 unmet first.2 in
       go first.0 w.to first.1 w.agreeing w.ok
@@ -263,7 +263,7 @@ alone_to d σ w x y o i ν h = rw (without_none d.names) at (given_to d σ w x y
 alone_from : (d : Part) (σ : Trace) → fits d ≡ true → (x y : ℕ) → x ≤ y → y < length σ → given d.names unplaced d σ x y ≡ true
     → (ν : Placement) × On no_names d σ x y ν
 alone_from d σ w x y o i h =
-    let v = given-from d σ w x y o i no_names unplaced (rw (without_none d.names) h) in
+    let v = given_from d σ w x y o i no_names unplaced (rw (without_none d.names) h) in
     (v.0, v.1)
 
 breaks_to : (κ : ClauseType) (d₁ d₂ d₃ : Part) (σ : Trace) → parts_fit κ d₁ d₂ d₃ ≡ true → (i j k : ℕ) → j < length σ → k < length σ
@@ -280,7 +280,7 @@ breaks_to init d₁ d₂ d₃ σ w i j k jn kn (p, q, r) =
     (first_to d₂ σ (and_right (fits d₁) (fits d₂) w) 0 j (omega arith) jn (λ ν. not (some_in 0 j (λ l. given (without d₁.names d₂.names) ν d₁ σ 0 l))) r.0 r.1
     (not_intro (some_in 0 j (λ l. given (without d₁.names d₂.names) (put_over d₂.names r.0 unplaced) d₁ σ 0 l))
     (λ h. let v = some_elim 0 (suc j) (λ l. given (without d₁.names d₂.names) (put_over d₂.names r.0 unplaced) d₁ σ 0 l) h in
-    let g = given-from d₁ σ (and_left (fits d₁) (fits d₂) w) 0 v.at (omega arith) (omega (arith, v.high)) d₂.names
+    let g = given_from d₁ σ (and_left (fits d₁) (fits d₂) w) 0 v.at (omega arith) (omega (arith, v.high)) d₂.names
     (put_over d₂.names r.0 unplaced) v.ok in
     r.2 v.at (omega (arith, v.high)) g.0 g.1 (second_agrees d₂.names d₁.names r.0 g.0 g.2))))
 breaks_to anti d₁ d₂ d₃ σ w i j k jn kn (p, q, r) =
@@ -291,17 +291,17 @@ breaks_to implies d₁ d₂ d₃ σ w i j k jn kn (p, q, r) =
     (le-leb i j p) (eq-eqb k j q)
     (first_to d₁ σ (and_left (fits d₁) (fits d₂) w) i j p jn (λ ν. not (given (without d₂.names d₁.names) ν d₂ σ i j)) r.0 r.1
     (not_intro (given (without d₂.names d₁.names) (put_over d₁.names r.0 unplaced) d₂ σ i j)
-    (λ h. let g = given-from d₂ σ (and_right (fits d₁) (fits d₂) w) i j p jn d₁.names (put_over d₁.names r.0 unplaced) h in
+    (λ h. let g = given_from d₂ σ (and_right (fits d₁) (fits d₂) w) i j p jn d₁.names (put_over d₁.names r.0 unplaced) h in
     r.2 g.0 g.1 (second_agrees d₁.names d₂.names r.0 g.0 g.2))))
 breaks_to follows d₁ d₂ d₃ σ w i j k jn kn (p, q, r) =
     let w' = and_right (fits d₁) (fits d₂ && fits d₃) w in
     all_to (leb i j) (leb j k) (unanswered d₁ d₂ d₃ σ i j j k) (le-leb i j p) (le-leb j k q)
-    (unanswered-to d₁ d₂ d₃ σ (and_left (fits d₁) (fits d₂ && fits d₃) w) (and_left (fits d₂) (fits d₃) w') (and_right (fits d₂) (fits d₃) w')
+    (unanswered_to d₁ d₂ d₃ σ (and_left (fits d₁) (fits d₂ && fits d₃) w) (and_left (fits d₂) (fits d₃) w') (and_right (fits d₂) (fits d₃) w')
     i j j k p jn q kn r)
 breaks_to triggers d₁ d₂ d₃ σ w i j k jn kn (p, q, r) =
     let w' = and_right (fits d₁) (fits d₂ && fits d₃) w in
     all_to (leb i j) (leb i k) (unanswered d₁ d₂ d₃ σ i j i k) (le-leb i j p) (le-leb i k q)
-    (unanswered-to d₁ d₂ d₃ σ (and_left (fits d₁) (fits d₂ && fits d₃) w) (and_left (fits d₂) (fits d₃) w') (and_right (fits d₂) (fits d₃) w')
+    (unanswered_to d₁ d₂ d₃ σ (and_left (fits d₁) (fits d₂ && fits d₃) w) (and_left (fits d₂) (fits d₃) w') (and_right (fits d₂) (fits d₃) w')
     i j i k p jn q kn r)
 
 breaks_from : (κ : ClauseType) (d₁ d₂ d₃ : Part) (σ : Trace) → parts_fit κ d₁ d₂ d₃ ≡ true → (i j k : ℕ) → j < length σ → k < length σ
@@ -354,7 +354,7 @@ breaks_from follows d₁ d₂ d₃ σ w i j k jn kn h =
     let m = leb-true j k a.1 in (
       l,
       m,
-      unanswered-from d₁ d₂ d₃ σ (and_left (fits d₁) (fits d₂ && fits d₃) w) (and_left (fits d₂) (fits d₃) w') (and_right (fits d₂) (fits d₃) w')
+      unanswered_from d₁ d₂ d₃ σ (and_left (fits d₁) (fits d₂ && fits d₃) w) (and_left (fits d₂) (fits d₃) w') (and_right (fits d₂) (fits d₃) w')
           i j j k l jn m kn a.2,
     )
 breaks_from triggers d₁ d₂ d₃ σ w i j k jn kn h =
@@ -364,7 +364,7 @@ breaks_from triggers d₁ d₂ d₃ σ w i j k jn kn h =
     let m = leb-true i k a.1 in (
       l,
       m,
-      unanswered-from d₁ d₂ d₃ σ (and_left (fits d₁) (fits d₂ && fits d₃) w) (and_left (fits d₂) (fits d₃) w') (and_right (fits d₂) (fits d₃) w')
+      unanswered_from d₁ d₂ d₃ σ (and_left (fits d₁) (fits d₂ && fits d₃) w) (and_left (fits d₂) (fits d₃) w') (and_right (fits d₂) (fits d₃) w')
           i j i k l jn m kn a.2,
     )
 

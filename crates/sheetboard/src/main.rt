@@ -1,5 +1,7 @@
 // Shows an open offer: a line for each minute, with the verdict on the minutes so far or the number of the refusal. Standard input is a sheet,
 // which ends where its length field says, and then two bytes a minute. A refused sheet gets its line, and the program ends.
+#![tactic(auto)]
+
 ghost use Rattle.std.specs.Prelude.{◌≤◌, length};
 ghost use Rattle.printed.specs.Wall.{most_held};
 

@@ -1,4 +1,6 @@
 // Prints the verdict of a sheet on a trace, or the number of the refusal. Standard input is the sheet, then the trace; 1,024 bytes are read.
+#![tactic(auto)]
+
 use libc::{STDIN_FILENO, STDOUT_FILENO};
 
 fn main() {

@@ -1,4 +1,6 @@
 // Writes the formula of a sheet, or "REFUSED" and the number. Standard input is the sheet; 1,024 bytes are read.
+#![tactic(auto)]
+
 use libc::{STDIN_FILENO, STDOUT_FILENO};
 
 fn main() {

@@ -1,4 +1,6 @@
 // The check and the translator together.
+#![tactic(auto)]
+
 ghost use Rattle.std.specs.Prelude.{◌≡◌, length};
 ghost use Rattle.checker.specs.Check.{check_answer, check_refusal};
 ghost use Rattle.checker.specs.Table.{words_after};

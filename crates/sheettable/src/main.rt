@@ -1,4 +1,6 @@
 // Prints the interval table of a node. Standard input is the node in two bytes, a byte for each of three cycles, then a sheet and a trace.
+#![tactic(auto)]
+
 use libc::{STDIN_FILENO, STDOUT_FILENO};
 
 fn main() {

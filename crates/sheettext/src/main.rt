@@ -1,5 +1,7 @@
 // Writes the stored sheet of a typed one, or "REFUSED" and the number. Standard input is the text; 65,536 bytes are held, and a longer text
 // is "REFUSED 0".
+#![tactic(auto)]
+
 use libc::{STDIN_FILENO, STDOUT_FILENO};
 use printed::sheet::HELD;
 

@@ -21,7 +21,7 @@ use Rattle.stored.specs.Sheet.{header_of, nodes_of, stored_of, framed, versioned
 use Rattle.semantics.proofs.Tests.{and_left, and_right}
 use Rattle.stored.proofs.Rules.{every_at, every_same}
 use Rattle.stored.proofs.Tree.{Earlier, sort_below_lem}
-use Rattle.stored.proofs.Reach.{NodesKept, reach-law, reach_small, covers_mask, table_at}
+use Rattle.stored.proofs.Reach.{NodesKept, reach_law, reach_small, covers_mask, table_at}
 use Rattle.stored.proofs.Accepted.{counts, mask_small}
 
 -- rules 1 to 3
@@ -81,9 +81,9 @@ module _ (s : List ℕ) where
   unfolding sheet_answer sheet_refusal sheet_rules lowest pick
   accepted f r₆ r₇ r₈ e = rw (f.frame.rule1, f.frame.rule2, f.frame.rule3, f.rule4, f.rule5, r₆, r₇, r₈, e)
 
-  pub framed-long : framed s ≡ true → 9 ≤ length s
+  pub framed_long : framed s ≡ true → 9 ≤ length s
   unfolding framed
-  framed-long e = framed_from_lem 9 s e
+  framed_long e = framed_from_lem 9 s e
 
 -- rule 9 at a part that rule 8 takes
 part_covered_lem : (s m n : ℕ) (x : ℕ → Node) → NodesKept s m n x → n ≤ 64 → (used : Bool) (root mask : ℕ) → part_right x n used root mask ≡ true → part_covered (reach_table x n) m used root mask ≡ part_named x m used root mask
@@ -98,7 +98,7 @@ part_covered_lem s m n x kept few true root mask e = go (ltb mask (2 ^ m)) refl
     go true f =
         ap (λ (r : ℕ). eqb (joint r mask) mask) (table_at x n root few found.less)
         ∙ sym (covers_mask (reach_at x root) mask (reach_small x root) (mask_small m mask kept.three (ltb-true mask (2 ^ m) f)))
-        ∙ sym ((reach-law s m n x kept (bit mask) root found.less).of_formula found.sorted)
+        ∙ sym ((reach_law s m n x kept (bit mask) root found.less).of_formula found.sorted)
 part_covered_lem s m n x kept few false root mask e = refl
 
 clause_covered_lem : (s m n : ℕ) (x : ℕ → Node) → NodesKept s m n x → n ≤ 64 → (d : StoredClause) → clause_right x n d ≡ true → clause_covered (reach_table x n) m d ≡ clause_named x m d

@@ -19,9 +19,9 @@ use Rattle.stored.specs.Node.{requirement_sorts, sort_of, q_use, a_use, b_use, i
 use Rattle.stored.specs.Tree.{earlier, proposition_op, formula_op, proposition_of, proposition_at, formula_of, formula_at}
 use Rattle.stored.specs.Reach.{joint, name_mask, field_reach, node_reach, reach_step, reach_at, covers, reach_table, entry_of}
 use Rattle.semantics.proofs.Tests.{and_left, and_right}
-use Rattle.stored.proofs.Rules.{asked, every_at, every_number, getD-inOrder}
-use Rattle.stored.proofs.Made.{earlier-at, made-step}
-use Rattle.stored.proofs.Tree.{operands, proposition_cases, formula_cases, proposition-law, formula-law, is_proposition, is_formula}
+use Rattle.stored.proofs.Rules.{asked, every_at, every_number, get_or_in_order}
+use Rattle.stored.proofs.Made.{earlier_at, made_step}
+use Rattle.stored.proofs.Tree.{operands, proposition_cases, formula_cases, proposition_law, formula_law, is_proposition, is_formula}
 
 -- tests of Bools and of masks below 8
 unfoldable pub each_bool : (Bool → Bool) → Bool
@@ -125,7 +125,7 @@ earlier_small i t k h = go (ltb k i) (λ e. h (ltb-true k i e))
 
 pub reach_step_lem : (x : ℕ → Node) (i : ℕ) → reach_at x i ≡ node_reach (earlier i 0 (reach_at x)) (x i)
 unfolding reach_at reach_step
-reach_step_lem x i = made-step 0 (reach_step x) i
+reach_step_lem x i = made_step 0 (reach_step x) i
 
 small_below : (x : ℕ → Node) (n i : ℕ) → i < n → reach_at x i < 8
 small_below x zero i h = absurd (omega arith)
@@ -260,7 +260,7 @@ pub record Reached (names : Names) (x : ℕ → Node) (i : ℕ) : Type 0 where
 
 module _ (s m n : ℕ) (x : ℕ → Node) (kept : NodesKept s m n x) (names : Names) where
   record Fields (i : ℕ) : Type 0 where
-    pub q-right : field_right s m (q_use (x i).op) (x i).q ≡ true
+    pub q_right : field_right s m (q_use (x i).op) (x i).q ≡ true
     pub a_right : field_right s m (a_use (x i).op) (x i).a ≡ true
 
   fields_at : (i : ℕ) → i < n → Fields i
@@ -269,13 +269,13 @@ module _ (s m n : ℕ) (x : ℕ → Node) (kept : NodesKept s m n x) (names : Na
       let after = and_right (not (eqb (sort_of requirement_sorts (x i).op) 0)) _ (kept.fields i h) in
       let last = and_right (field_right s m (q_use (x i).op) (x i).q) _ after in
       record {
-        q-right = and_left (field_right s m (q_use (x i).op) (x i).q) _ after;
+        q_right = and_left (field_right s m (q_use (x i).op) (x i).q) _ after;
         a_right = and_left (field_right s m (a_use (x i).op) (x i).a) _ last;
       }
 
-  reached-step : (i : ℕ) → i < n → ((k : ℕ) → k < i → Reached names x k) → Reached names x i
+  reached_step : (i : ℕ) → i < n → ((k : ℕ) → k < i → Reached names x k) → Reached names x i
   unfolding Proposed Formed reached node_reach
-  reached-step i h before =
+  reached_step i h before =
       let r = earlier i 0 (reach_at x) in
       let small : (v : ℕ) → r v < 8 = λ v. earlier_small i (reach_at x) v (λ l. reach_small x v) in
       let at = operands requirement_sorts x i (kept.operands_kept i h) in
@@ -283,28 +283,28 @@ module _ (s m n : ℕ) (x : ℕ → Node) (kept : NodesKept s m n x) (names : Na
       record {
         of_proposition =
             λ sort.
-            ap (proposition_within names) (proposition-law requirement_sorts x i (kept.operands_kept i h))
+            ap (proposition_within names) (proposition_law requirement_sorts x i (kept.operands_kept i h))
             ∙ proposed names s m kept.three (x i) r small (proposition_at x) (x i).op sort right.a_right
-            (λ e. (before (x i).a (at.a_proposition e).less).of_proposition (at.a_proposition e).sorted ∙ ap (λ (z : ℕ). covers z names) (sym (earlier-at i 0 (reach_at x) (x i).a (at.a_proposition e).less)))
-            (λ e. (before (x i).b (at.b_proposition e).less).of_proposition (at.b_proposition e).sorted ∙ ap (λ (z : ℕ). covers z names) (sym (earlier-at i 0 (reach_at x) (x i).b (at.b_proposition e).less)))
+            (λ e. (before (x i).a (at.a_proposition e).less).of_proposition (at.a_proposition e).sorted ∙ ap (λ (z : ℕ). covers z names) (sym (earlier_at i 0 (reach_at x) (x i).a (at.a_proposition e).less)))
+            (λ e. (before (x i).b (at.b_proposition e).less).of_proposition (at.b_proposition e).sorted ∙ ap (λ (z : ℕ). covers z names) (sym (earlier_at i 0 (reach_at x) (x i).b (at.b_proposition e).less)))
             ∙ ap (λ (z : ℕ). covers z names) (sym (reach_step_lem x i));
         of_formula =
             λ sort.
-            ap (within names) (formula-law requirement_sorts x i (kept.operands_kept i h))
+            ap (within names) (formula_law requirement_sorts x i (kept.operands_kept i h))
             ∙ formed names s m kept.three (x i) r small (proposition_at x) (formula_at x) (x i).op sort right.q-right right.a_right
-            (λ e. (before (x i).a (at.a_proposition e).less).of_proposition (at.a_proposition e).sorted ∙ ap (λ (z : ℕ). covers z names) (sym (earlier-at i 0 (reach_at x) (x i).a (at.a_proposition e).less)))
-            (λ e. (before (x i).a (at.a_formula e).less).of_formula (at.a_formula e).sorted ∙ ap (λ (z : ℕ). covers z names) (sym (earlier-at i 0 (reach_at x) (x i).a (at.a_formula e).less)))
-            (λ e. (before (x i).b (at.b_formula e).less).of_formula (at.b_formula e).sorted ∙ ap (λ (z : ℕ). covers z names) (sym (earlier-at i 0 (reach_at x) (x i).b (at.b_formula e).less)))
+            (λ e. (before (x i).a (at.a_proposition e).less).of_proposition (at.a_proposition e).sorted ∙ ap (λ (z : ℕ). covers z names) (sym (earlier_at i 0 (reach_at x) (x i).a (at.a_proposition e).less)))
+            (λ e. (before (x i).a (at.a_formula e).less).of_formula (at.a_formula e).sorted ∙ ap (λ (z : ℕ). covers z names) (sym (earlier_at i 0 (reach_at x) (x i).a (at.a_formula e).less)))
+            (λ e. (before (x i).b (at.b_formula e).less).of_formula (at.b_formula e).sorted ∙ ap (λ (z : ℕ). covers z names) (sym (earlier_at i 0 (reach_at x) (x i).b (at.b_formula e).less)))
             ∙ ap (λ (z : ℕ). covers z names) (sym (reach_step_lem x i));
       }
 
-  reached-below : (bound i : ℕ) → i < bound → i < n → Reached names x i
-  reached-below zero i l h = absurd (omega arith)
-  reached-below (suc bound) i l h = reached-step i h (λ k e. reached-below bound k (omega arith) (omega arith))
+  reached_below : (bound i : ℕ) → i < bound → i < n → Reached names x i
+  reached_below zero i l h = absurd (omega arith)
+  reached_below (suc bound) i l h = reached_step i h (λ k e. reached_below bound k (omega arith) (omega arith))
 
   -- every set has the names of the tree at a node exactly if it has those of the node's reach mask
-  pub reach-law : (i : ℕ) → i < n → Reached names x i
-  reach-law i h = reached-below (suc i) i (omega arith) h
+  pub reach_law : (i : ℕ) → i < n → Reached names x i
+  reach_law i h = reached_below (suc i) i (omega arith) h
 
 mask_test : ℕ → ℕ → Bool
 mask_test r mask = beq (covers r (bit mask)) (eqb (joint r mask) mask)
@@ -345,4 +345,4 @@ table_next x table i v before e = e ∙ ap (λ (r : ℕ → ℕ). node_reach r (
 pub table_at : (x : ℕ → Node) (n i : ℕ) → n ≤ 64 → i < n → entry_of (reach_table x n) i ≡ reach_at x i
 unfolding reach_table entry_of
 table_at x n i few h =
-    getD-inOrder 64 (earlier n 0 (reach_at x)) i 0 (omega arith) ∙ earlier-at n 0 (reach_at x) i h
+    get_or_in_order 64 (earlier n 0 (reach_at x)) i 0 (omega arith) ∙ earlier_at n 0 (reach_at x) i h

@@ -46,16 +46,16 @@ every_number n p h above k =
     ]
 
 module _ {A : Type 0} where
-  pub length-inOrder : (n : ℕ) (f : ℕ → A) → length (in_order n f) ≡ n
+  pub length_in_order : (n : ℕ) (f : ℕ → A) → length (in_order n f) ≡ n
   unfolding in_order
-  length-inOrder zero f = refl
-  length-inOrder (suc n) f = ap suc (length-inOrder n (λ i. f (suc i)))
+  length_in_order zero f = refl
+  length_in_order (suc n) f = ap suc (length_in_order n (λ i. f (suc i)))
 
-  pub getD-inOrder : (n : ℕ) (f : ℕ → A) (i : ℕ) (d : A) → i < n → get_or (in_order n f) i d ≡ f i
+  pub get_or_in_order : (n : ℕ) (f : ℕ → A) (i : ℕ) (d : A) → i < n → get_or (in_order n f) i d ≡ f i
   unfolding in_order
-  getD-inOrder zero f i d h = absurd (omega arith)
-  getD-inOrder (suc n) f zero d h = refl
-  getD-inOrder (suc n) f (suc i) d h = getD-inOrder n (λ i. f (suc i)) i d (omega arith)
+  get_or_in_order zero f i d h = absurd (omega arith)
+  get_or_in_order (suc n) f zero d h = refl
+  get_or_in_order (suc n) f (suc i) d h = get_or_in_order n (λ i. f (suc i)) i d (omega arith)
 
 -- the lowest number is 0 exactly where every rule is kept; else it is the number of a broken rule, and the rules before it are kept
 pub lowest_kept : (k : ℕ) (kept : Bool) (rules : List Bool) → 0 < k → lowest k (kept ∷ rules) ≡ 0 → (kept ≡ true) × (lowest (suc k) rules ≡ 0)

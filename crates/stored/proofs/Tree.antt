@@ -15,7 +15,7 @@ use Rattle.stored.specs.Node.{requirement_sorts, emitted_sorts, sort_of, sort_be
 use Rattle.stored.specs.Tree.{earlier, PropositionOp, never_op, always_op, signal_op, name_op, negated_op, both_op, either_op, no_proposition, FormulaOp, point_op, stretch_op, whole_op, unit_op, chop_op, conjunction_op, disjunction_op, star_op, slen_op, scount_op, sdur_op, drawn_op, at_op, gap_op, negation_op, for_some_op, no_formula, proposition_op, formula_ops, formula_op, proposition_of, proposition_step, proposition_at, formula_of, formula_step, formula_at}
 use Rattle.semantics.proofs.Tests.{and_left, and_right}
 use Rattle.stored.proofs.Rules.{asked, every_number}
-use Rattle.stored.proofs.Made.{earlier-at, earlier-same, made-step, made-agree}
+use Rattle.stored.proofs.Made.{earlier_at, earlier_same, made_step, made_agree}
 
 -- an op's number
 proposition_number : PropositionOp → ℕ
@@ -118,10 +118,10 @@ sorted_formula : ℕ → FormulaOp → Bool
 sorted_formula sort o = not (eqb sort 2) || not (eqb (formula_number o) 0)
 
 module _ (sorts : List ℕ) (long : length sorts ≤ 32) where
-  proposition-sorted : every_below 32 (λ j. sorted_proposition (sort_of sorts j) (proposition_op j)) ≡ true
+  proposition_sorted : every_below 32 (λ j. sorted_proposition (sort_of sorts j) (proposition_op j)) ≡ true
       → (k : ℕ) → sort_of sorts k ≡ 1 → proposition_op k ≡ no_proposition → ⊥
   unfolding sort_of sorted_proposition proposition_number
-  proposition-sorted all k e none =
+  proposition_sorted all k e none =
       false≢true
       (asked (eqb (sort_of sorts k) 1) false
       (subst (λ (o : PropositionOp). sorted_proposition (sort_of sorts k) o ≡ true) none
@@ -129,10 +129,10 @@ module _ (sorts : List ℕ) (long : length sorts ≤ 32) where
       (λ j h. ap (λ (z : ℕ). sorted_proposition z (proposition_op j)) (get_or-eq_default sorts 0 (omega arith))) k))
       (eq-eqb (sort_of sorts k) 1 e))
 
-  formula-sorted : every_below 32 (λ j. sorted_formula (sort_of sorts j) (formula_op j)) ≡ true
+  formula_sorted : every_below 32 (λ j. sorted_formula (sort_of sorts j) (formula_op j)) ≡ true
       → (k : ℕ) → sort_of sorts k ≡ 2 → formula_op k ≡ no_formula → ⊥
   unfolding sort_of sorted_formula formula_number
-  formula-sorted all k e none =
+  formula_sorted all k e none =
       false≢true
       (asked (eqb (sort_of sorts k) 2) false
       (subst (λ (o : FormulaOp). sorted_formula (sort_of sorts k) o ≡ true) none
@@ -142,19 +142,19 @@ module _ (sorts : List ℕ) (long : length sorts ≤ 32) where
 
 pub is_proposition : (k : ℕ) → sort_of requirement_sorts k ≡ 1 → proposition_op k ≡ no_proposition → ⊥
 unfolding proposition_op sort_of sorted_proposition proposition_number every_below
-is_proposition = proposition-sorted requirement_sorts (omega arith) refl
+is_proposition = proposition_sorted requirement_sorts (omega arith) refl
 
 pub is_formula : (k : ℕ) → sort_of requirement_sorts k ≡ 2 → formula_op k ≡ no_formula → ⊥
 unfolding formula_op sort_of sorted_formula formula_number every_below
-is_formula = formula-sorted requirement_sorts (omega arith) refl
+is_formula = formula_sorted requirement_sorts (omega arith) refl
 
 pub emitted_proposition : (k : ℕ) → sort_of emitted_sorts k ≡ 1 → proposition_op k ≡ no_proposition → ⊥
 unfolding proposition_op sort_of sorted_proposition proposition_number every_below
-emitted_proposition = proposition-sorted emitted_sorts (omega arith) refl
+emitted_proposition = proposition_sorted emitted_sorts (omega arith) refl
 
 pub emitted_formula_lem : (k : ℕ) → sort_of emitted_sorts k ≡ 2 → formula_op k ≡ no_formula → ⊥
 unfolding formula_op sort_of sorted_formula formula_number every_below
-emitted_formula_lem = formula-sorted emitted_sorts (omega arith) refl
+emitted_formula_lem = formula_sorted emitted_sorts (omega arith) refl
 
 -- where a node of the needed sort stands
 pub record Earlier (sorts : List ℕ) (x : ℕ → Node) (i v sort : ℕ) : Type 0 where
@@ -256,41 +256,41 @@ same_formula n p p' f f' k =
 
 -- the tree at a node is the constructor of its op over its operands' trees
 module _ (sorts : List ℕ) (x : ℕ → Node) (i : ℕ) (h : operands_right sorts x i ≡ true) where
-  earlier-proposition : (v : ℕ) → v < i → earlier i never (proposition_at x) v ≡ proposition_at x v
-  earlier-proposition v l = earlier-at i never (proposition_at x) v l
+  earlier_proposition : (v : ℕ) → v < i → earlier i never (proposition_at x) v ≡ proposition_at x v
+  earlier_proposition v l = earlier_at i never (proposition_at x) v l
 
-  pub proposition-law : proposition_at x i ≡ proposition_of (proposition_op (x i).op) (x i) (proposition_at x)
+  pub proposition_law : proposition_at x i ≡ proposition_of (proposition_op (x i).op) (x i) (proposition_at x)
   unfolding proposition_at proposition_step SameProposition
-  proposition-law =
+  proposition_law =
       let at = operands sorts x i h in
-      made-step never (proposition_step x) i
+      made_step never (proposition_step x) i
       ∙ same_proposition (x i) (earlier i never (proposition_at x)) (proposition_at x) (x i).op
-      (λ e. earlier-proposition (x i).a (at.a_proposition e).less)
-      (λ e. earlier-proposition (x i).b (at.b_proposition e).less)
+      (λ e. earlier_proposition (x i).a (at.a_proposition e).less)
+      (λ e. earlier_proposition (x i).b (at.b_proposition e).less)
 
-  pub formula-law : formula_at x i ≡ formula_of (formula_op (x i).op) (x i) (proposition_at x) (formula_at x)
+  pub formula_law : formula_at x i ≡ formula_of (formula_op (x i).op) (x i) (proposition_at x) (formula_at x)
   unfolding formula_at formula_step SameFormula
-  formula-law =
+  formula_law =
       let at = operands sorts x i h in
-      made-step (slen below 0) (formula_step x) i
+      made_step (slen below 0) (formula_step x) i
       ∙ same_formula (x i) (earlier i never (proposition_at x)) (proposition_at x) (earlier i (slen below 0) (formula_at x)) (formula_at x) (x i).op
-      (λ e. earlier-proposition (x i).a (at.a_proposition e).less)
-      (λ e. earlier-at i (slen below 0) (formula_at x) (x i).a (at.a_formula e).less)
-      (λ e. earlier-at i (slen below 0) (formula_at x) (x i).b (at.b_formula e).less)
+      (λ e. earlier_proposition (x i).a (at.a_proposition e).less)
+      (λ e. earlier_at i (slen below 0) (formula_at x) (x i).a (at.a_formula e).less)
+      (λ e. earlier_at i (slen below 0) (formula_at x) (x i).b (at.b_formula e).less)
 
 -- the tree at i goes by the nodes up to i alone
 pub proposition_agree : (x y : ℕ → Node) (i : ℕ) → ((k : ℕ) → k ≤ i → x k ≡ y k) → proposition_at x i ≡ proposition_at y i
 unfolding proposition_at proposition_step
 proposition_agree x y i h =
-    made-agree never (proposition_step x) (proposition_step y) i
+    made_agree never (proposition_step x) (proposition_step y) i
     (λ k l t. ap (λ (n : Node). proposition_of (proposition_op n.op) n t) (h k l))
 
 pub formula_agree : (x y : ℕ → Node) (i : ℕ) → ((k : ℕ) → k ≤ i → x k ≡ y k) → formula_at x i ≡ formula_at y i
 unfolding formula_at formula_step
 formula_agree x y i h =
-    made-agree (slen below 0) (formula_step x) (formula_step y) i
+    made_agree (slen below 0) (formula_step x) (formula_step y) i
     (λ k l t.
     ap₂ (λ (n : Node) (p : ℕ → Proposition). formula_of (formula_op n.op) n p t) (h k l)
     (fun_ext
-    (λ j. earlier-same k never (proposition_at x) (proposition_at y) j
+    (λ j. earlier_same k never (proposition_at x) (proposition_at y) j
     (λ e. proposition_agree x y j (λ o u. h o (omega arith))))))

@@ -19,7 +19,7 @@ use Rattle.stored.specs.Reached.{is_node, has_operand, Reached, itself, operand,
 use Rattle.stored.specs.Sheet.{header_of, nodes_of}
 use Rattle.stored.specs.Emitted.{root_of, emitted_formula, emitted_operands, is_emitted}
 use Rattle.stored.proofs.Rules.{every_at}
-use Rattle.stored.proofs.Tree.{Operands, operands, sort_below_lem, proposition_cases, formula_cases, proposition-law, formula-law, emitted_proposition, emitted_formula_lem}
+use Rattle.stored.proofs.Tree.{Operands, operands, sort_below_lem, proposition_cases, formula_cases, proposition_law, formula_law, emitted_proposition, emitted_formula_lem}
 use Rattle.stored.proofs.Emitted.{emitted_opened}
 
 -- ---- an operand is field a or field b, used as a proposition or as a formula
@@ -67,14 +67,14 @@ record Held (K : Names) (p : ℕ → Proposition) (f : ℕ → Formula) (what v 
   formula : what ≡ 8 → within K (f v) ≡ true
 
 module _ {K : Names} {p : ℕ → Proposition} {f : ℕ → Formula} {v : ℕ} where
-  holds-proposition : proposition_within K (p v) ≡ true → Held K p f 7 v
-  holds-proposition h = record { proposition = λ e. h; formula = λ e. absurd (omega arith) }
+  holds_proposition : proposition_within K (p v) ≡ true → Held K p f 7 v
+  holds_proposition h = record { proposition = λ e. h; formula = λ e. absurd (omega arith) }
 
-  holds-formula : within K (f v) ≡ true → Held K p f 8 v
-  holds-formula h = record { proposition = λ e. absurd (omega arith); formula = λ e. h }
+  holds_formula : within K (f v) ≡ true → Held K p f 8 v
+  holds_formula h = record { proposition = λ e. absurd (omega arith); formula = λ e. h }
 
-  holds-value : (what : ℕ) → what < 7 → Held K p f what v
-  holds-value what l = record { proposition = λ e. absurd (omega arith); formula = λ e. absurd (omega arith) }
+  holds_value : (what : ℕ) → what < 7 → Held K p f what v
+  holds_value what l = record { proposition = λ e. absurd (omega arith); formula = λ e. absurd (omega arith) }
 
 Lower : Node → (ℕ → Proposition) → (ℕ → Formula) → Names → ℕ → Type 0
 Lower n p f K k = (Held (under_op k n.b K) p f (a_use k) n.a) × (Held (under_op k n.b K) p f (b_use k) n.b)
@@ -89,13 +89,13 @@ lower_proposition : (n : Node) (p : ℕ → Proposition) (f : ℕ → Formula) (
 unfolding LowerProposition Lower under_op pick a_use b_use proposition_of proposition_op proposition_within
 lower_proposition n p f K k =
     proposition_cases (LowerProposition n p f K)
-    (λ s h. (holds-value 0 (omega arith), holds-value 0 (omega arith)))
-    (λ s h. (holds-value 0 (omega arith), holds-value 0 (omega arith)))
-    (λ s h. (holds-value 1 (omega arith), holds-value 0 (omega arith)))
-    (λ s h. (holds-value 2 (omega arith), holds-value 0 (omega arith)))
-    (λ s h. (holds-proposition h, holds-value 0 (omega arith)))
-    (λ s h. (holds-proposition (and_left (proposition_within K (p n.a)) _ h), holds-proposition (and_right (proposition_within K (p n.a)) _ h)))
-    (λ s h. (holds-proposition (and_left (proposition_within K (p n.a)) _ h), holds-proposition (and_right (proposition_within K (p n.a)) _ h)))
+    (λ s h. (holds_value 0 (omega arith), holds_value 0 (omega arith)))
+    (λ s h. (holds_value 0 (omega arith), holds_value 0 (omega arith)))
+    (λ s h. (holds_value 1 (omega arith), holds_value 0 (omega arith)))
+    (λ s h. (holds_value 2 (omega arith), holds_value 0 (omega arith)))
+    (λ s h. (holds_proposition h, holds_value 0 (omega arith)))
+    (λ s h. (holds_proposition (and_left (proposition_within K (p n.a)) _ h), holds_proposition (and_right (proposition_within K (p n.a)) _ h)))
+    (λ s h. (holds_proposition (and_left (proposition_within K (p n.a)) _ h), holds_proposition (and_right (proposition_within K (p n.a)) _ h)))
     k
     (λ e s h. absurd (emitted_proposition k s e))
 
@@ -103,22 +103,22 @@ lower_formula : (n : Node) (p : ℕ → Proposition) (f : ℕ → Formula) (K : 
 unfolding LowerFormula Lower under_op pick a_use b_use formula_of formula_op within
 lower_formula n p f K k =
     formula_cases (LowerFormula n p f K)
-    (λ s h. (holds-proposition h, holds-value 0 (omega arith)))
-    (λ s h. (holds-proposition h, holds-value 0 (omega arith)))
-    (λ s h. (holds-proposition h, holds-value 0 (omega arith)))
-    (λ s h. (holds-proposition h, holds-value 0 (omega arith)))
-    (λ s h. (holds-formula (and_left (within K (f n.a)) _ h), holds-formula (and_right (within K (f n.a)) _ h)))
-    (λ s h. (holds-formula (and_left (within K (f n.a)) _ h), holds-formula (and_right (within K (f n.a)) _ h)))
-    (λ s h. (holds-formula (and_left (within K (f n.a)) _ h), holds-formula (and_right (within K (f n.a)) _ h)))
-    (λ s h. (holds-formula h, holds-value 0 (omega arith)))
-    (λ s h. (holds-value 0 (omega arith), holds-value 6 (omega arith)))
-    (λ s h. (holds-proposition h, holds-value 6 (omega arith)))
-    (λ s h. (holds-proposition h, holds-value 6 (omega arith)))
-    (λ s h. (holds-value 1 (omega arith), holds-value 0 (omega arith)))
-    (λ s h. (holds-value 2 (omega arith), holds-value 0 (omega arith)))
-    (λ s h. (holds-value 6 (omega arith), holds-value 6 (omega arith)))
-    (λ s h. (holds-formula h, holds-value 0 (omega arith)))
-    (λ s h. (holds-formula h, holds-value 2 (omega arith)))
+    (λ s h. (holds_proposition h, holds_value 0 (omega arith)))
+    (λ s h. (holds_proposition h, holds_value 0 (omega arith)))
+    (λ s h. (holds_proposition h, holds_value 0 (omega arith)))
+    (λ s h. (holds_proposition h, holds_value 0 (omega arith)))
+    (λ s h. (holds_formula (and_left (within K (f n.a)) _ h), holds_formula (and_right (within K (f n.a)) _ h)))
+    (λ s h. (holds_formula (and_left (within K (f n.a)) _ h), holds_formula (and_right (within K (f n.a)) _ h)))
+    (λ s h. (holds_formula (and_left (within K (f n.a)) _ h), holds_formula (and_right (within K (f n.a)) _ h)))
+    (λ s h. (holds_formula h, holds_value 0 (omega arith)))
+    (λ s h. (holds_value 0 (omega arith), holds_value 6 (omega arith)))
+    (λ s h. (holds_proposition h, holds_value 6 (omega arith)))
+    (λ s h. (holds_proposition h, holds_value 6 (omega arith)))
+    (λ s h. (holds_value 1 (omega arith), holds_value 0 (omega arith)))
+    (λ s h. (holds_value 2 (omega arith), holds_value 0 (omega arith)))
+    (λ s h. (holds_value 6 (omega arith), holds_value 6 (omega arith)))
+    (λ s h. (holds_formula h, holds_value 0 (omega arith)))
+    (λ s h. (holds_formula h, holds_value 2 (omega arith)))
     k
     (λ e s h. absurd (emitted_formula_lem k s e))
 
@@ -133,14 +133,14 @@ module _ (x : ℕ → Node) (n : ℕ) (right : (i : ℕ) → i < n → operands_
   unfolding LowerProposition LowerFormula
   lower K j l (closed_proposition s h) =
       lower_proposition (x j) (proposition_at x) (formula_at x) K (x j).op s
-      (ap (proposition_within K) (sym (proposition-law emitted_sorts x j (right j l))) ∙ h)
+      (ap (proposition_within K) (sym (proposition_law emitted_sorts x j (right j l))) ∙ h)
   lower K j l (closed_formula s h) =
       lower_formula (x j) (proposition_at x) (formula_at x) K (x j).op s
-      (ap (within K) (sym (formula-law emitted_sorts x j (right j l))) ∙ h)
+      (ap (within K) (sym (formula_law emitted_sorts x j (right j l))) ∙ h)
 
-  closed-down : (K : Names) (j i : ℕ) → j < n → Closed x K j → has_operand (x j) i ≡ true → Closed x (under (x j) K) i
+  closed_down : (K : Names) (j i : ℕ) → j < n → Closed x K j → has_operand (x j) i ≡ true → Closed x (under (x j) K) i
   unfolding Lower under_op under
-  closed-down K j i l c e = go (operands emitted_sorts x j (right j l)) (lower K j l c) (operand_of (x j) i e)
+  closed_down K j i l c e = go (operands emitted_sorts x j (right j l)) (lower K j l c) (operand_of (x j) i e)
     where
       go : Operands emitted_sorts x j → Lower (x j) (proposition_at x) (formula_at x) K (x j).op → OperandOf (x j) i → Closed x (under (x j) K) i
       go o h (in_a (as_proposition u) is) = subst (Closed x (under (x j) K)) is (closed_proposition (o.a_proposition u).sorted (h.0.proposition u))
@@ -149,21 +149,21 @@ module _ (x : ℕ → Node) (n : ℕ) (right : (i : ℕ) → i < n → operands_
       go o h (in_b (as_formula u) is) = subst (Closed x (under (x j) K)) is (closed_formula (o.b_formula u).sorted (h.1.formula u))
 
   module _ (r : ℕ) (below : r < n) (sorted : sort_of emitted_sorts (x r).op ≡ 2) (closed : within no_names (formula_at x r) ≡ true) where
-    way-closed : (K : Names) (i : ℕ) → Way x r K i → (i < n) × (Closed x K i)
-    way-closed K i start = (below, closed_formula sorted closed)
-    way-closed K i (down {K = L} {j = j} w e) =
-        let c = way-closed L j w in
-        (omega (arith, c.0, operand_less emitted_sorts x j i (right j c.0) e), closed-down L j i c.0 c.1 e)
+    way_closed : (K : Names) (i : ℕ) → Way x r K i → (i < n) × (Closed x K i)
+    way_closed K i start = (below, closed_formula sorted closed)
+    way_closed K i (down {K = L} {j = j} w e) =
+        let c = way_closed L j w in
+        (omega (arith, c.0, operand_less emitted_sorts x j i (right j c.0) e), closed_down L j i c.0 c.1 e)
 
     -- the name of a name's node is quantified on each way to it
-    pub name-under : (K : Names) (i : ℕ) → Way x r K i → (x i).op ≡ 4 → K (x i).a ≡ true
+    pub name_under : (K : Names) (i : ℕ) → Way x r K i → (x i).op ≡ 4 → K (x i).a ≡ true
     unfolding proposition_within proposition_of proposition_op sort_of
-    name-under K i w e = let c = way-closed K i w in go c.0 c.1
+    name_under K i w e = let c = way_closed K i w in go c.0 c.1
       where
         go : i < n → Closed x K i → K (x i).a ≡ true
         go l (closed_proposition s h) =
             ap (proposition_within K)
-            (sym (ap (λ (k : ℕ). proposition_of (proposition_op k) (x i) (proposition_at x)) e) ∙ sym (proposition-law emitted_sorts x i (right i l)))
+            (sym (ap (λ (k : ℕ). proposition_of (proposition_op k) (x i) (proposition_at x)) e) ∙ sym (proposition_law emitted_sorts x i (right i l)))
             ∙ h
         go l (closed_formula s h) = absurd (omega (arith, sym s ∙ ap (sort_of emitted_sorts) e))
 
@@ -173,7 +173,7 @@ unfolding emitted_operands emitted_formula is_formula_node
 name_quantified y e =
     let o = emitted_opened y e in
     let root = sort_below_lem emitted_sorts (nodes_of y) (header_of y).nodes (root_of y) 2 (omega arith) (eqb-true _ 2 o.root_formula) in
-    name-under (nodes_of y) (header_of y).nodes (λ i l. every_at _ _ o.operands_right_holds i l) (root_of y) root.less root.sorted o.root_closed
+    name_under (nodes_of y) (header_of y).nodes (λ i l. every_at _ _ o.operands_right_holds i l) (root_of y) root.less root.sorted o.root_closed
 
 -- where a node is reached there is a way to it
 pub some_way : {x : ℕ → Node} {r i : ℕ} → Reached x r i → SomeWay x r i

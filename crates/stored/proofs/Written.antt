@@ -84,9 +84,9 @@ header_same l l' h =
 
 -- one node
 module _ (s : List ℕ) (i : ℕ) (x : Node) where
-  pub put-length : length (put_node s i x) ≡ length s
+  pub put_length : length (put_node s i x) ≡ length s
   unfolding put_node
-  put-length = length-sets s (nodes_end i) (node_bytes x)
+  put_length = length-sets s (nodes_end i) (node_bytes x)
 
   pub put_back : (n : ℕ) → nodes_end (i + 1) ≤ n → drop n (put_node s i x) ≡ drop n s
   unfolding put_node node_bytes
@@ -113,9 +113,9 @@ module _ (s : List ℕ) (i : ℕ) (x : Node) where
       (word_of l (6 * i + 2) x.a (byte_put fits 2 (omega arith)) (ap (λ (k : ℕ). get_or l k 0) third ∙ byte_put fits 3 (omega arith)))
       (word_of l (6 * i + 4) x.b (byte_put fits 4 (omega arith)) (ap (λ (k : ℕ). get_or l k 0) fifth ∙ byte_put fits 5 (omega arith)))
 
-  byte-other : (j : ℕ) → (j ≡ i → ⊥) → (r : ℕ) → r < 6 → get_or (drop nodes_start (put_node s i x)) (6 * j + r) 0 ≡ get_or (drop nodes_start s) (6 * j + r) 0
+  byte_other : (j : ℕ) → (j ≡ i → ⊥) → (r : ℕ) → r < 6 → get_or (drop nodes_start (put_node s i x)) (6 * j + r) 0 ≡ get_or (drop nodes_start s) (6 * j + r) 0
   unfolding put_node node_bytes
-  byte-other j other r h =
+  byte_other j other r h =
       get_or-drop nodes_start (put_node s i x) (6 * j + r) 0
       ∙ elim (test (ltb j i)) [
         | inl e ↦ get_or_before s (nodes_end i) (node_bytes x) (9 + (6 * j + r)) (omega (arith, ltb-true j i e))
@@ -126,25 +126,25 @@ module _ (s : List ℕ) (i : ℕ) (x : Node) where
   -- the other nodes and the header stay
   pub put_other : (j : ℕ) → (j ≡ i → ⊥) → node_in (put_node s i x) j ≡ node_in s j
   unfolding node_in
-  put_other j other = node_same (drop nodes_start (put_node s i x)) (drop nodes_start s) j (byte-other j other)
+  put_other j other = node_same (drop nodes_start (put_node s i x)) (drop nodes_start s) j (byte_other j other)
 
 -- a header
 module _ (out : List ℕ) (kind s m n c : ℕ) where
-  pub header-length : length (put_header out kind s m n c) ≡ length out
+  pub header_length : length (put_header out kind s m n c) ≡ length out
   unfolding put_header
-  header-length = length-sets out 0 (header_bytes kind s m n c)
+  header_length = length-sets out 0 (header_bytes kind s m n c)
 
-  pub header-back : (k : ℕ) → nodes_start ≤ k → drop k (put_header out kind s m n c) ≡ drop k out
+  pub header_back : (k : ℕ) → nodes_start ≤ k → drop k (put_header out kind s m n c) ≡ drop k out
   unfolding put_header header_bytes
-  header-back k h = drop_after out 0 (header_bytes kind s m n c) k (omega arith)
+  header_back k h = drop_after out 0 (header_bytes kind s m n c) k (omega arith)
 
-  pub header-nodes : (j : ℕ) → node_in (put_header out kind s m n c) j ≡ node_in out j
+  pub header_nodes : (j : ℕ) → node_in (put_header out kind s m n c) j ≡ node_in out j
   unfolding node_in
-  header-nodes j = ap (λ (l : List ℕ). node_at l j) (header-back nodes_start (omega arith))
+  header_nodes j = ap (λ (l : List ℕ). node_at l j) (header_back nodes_start (omega arith))
 
-  pub header-byte : nodes_start ≤ length out → (k : ℕ) → k < nodes_start → get_or (put_header out kind s m n c) k 0 ≡ get_or (header_bytes kind s m n c) k 0
+  pub header_byte : nodes_start ≤ length out → (k : ℕ) → k < nodes_start → get_or (put_header out kind s m n c) k 0 ≡ get_or (header_bytes kind s m n c) k 0
   unfolding put_header header_bytes
-  header-byte fits k h =
+  header_byte fits k h =
       let place : k ≡ 0 + k = omega arith in
       ap (λ (j : ℕ). get_or (put_header out kind s m n c) j 0) place ∙ get_or_put out 0 (header_bytes kind s m n c) k (omega arith) h
 
@@ -153,16 +153,16 @@ module _ (out : List ℕ) (kind s m n c : ℕ) where
   unfolding header_of header_bytes
   header_read fits =
       rw (
-        header-byte fits 4 (omega arith),
-        header-byte fits 5 (omega arith),
-        word_of (put_header out kind s m n c) 6 n (header-byte fits 6 (omega arith)) (header-byte fits 7 (omega arith)),
-        header-byte fits 8 (omega arith),
+        header_byte fits 4 (omega arith),
+        header_byte fits 5 (omega arith),
+        word_of (put_header out kind s m n c) 6 n (header_byte fits 6 (omega arith)) (header_byte fits 7 (omega arith)),
+        header_byte fits 8 (omega arith),
       )
 
-  pub header-rest : nodes_start ≤ length out → word (put_header out kind s m n c) 0 ≡ following (clauses_end n c)
+  pub header_rest : nodes_start ≤ length out → word (put_header out kind s m n c) 0 ≡ following (clauses_end n c)
   unfolding header_bytes
-  header-rest fits =
-      word_of (put_header out kind s m n c) 0 (following (clauses_end n c)) (header-byte fits 0 (omega arith)) (header-byte fits 1 (omega arith))
+  header_rest fits =
+      word_of (put_header out kind s m n c) 0 (following (clauses_end n c)) (header_byte fits 0 (omega arith)) (header_byte fits 1 (omega arith))
 
 -- the nodes that the header counts
 pub nodes_in : (s : List ℕ) (i : ℕ) → i < (header_of s).nodes → nodes_of s i ≡ node_in s i

@@ -1,4 +1,6 @@
 // Stored sheets: which bytes are one, by which number the others are refused, and what an accepted sheet says.
+#![tactic(auto)]
+
 pub mod bytes;
 pub mod clauses;
 pub mod layout;

@@ -63,17 +63,17 @@ marked_small n t l h = rw (only_in n t l h) (word_small n (eqb t))
 
 -- ---- one name put on a cycle
 module _ (columns : List ℕ) (u t : ℕ) (h : u < 3) (long : length columns ≡ 19) where
-  pub name-there : column_at (with_name columns u t) (first_name + u) ≡ marked_at t
+  pub name_there : column_at (with_name columns u t) (first_name + u) ≡ marked_at t
   unfolding column_at with_name
-  name-there = get_or-set_same columns (first_name + u) (marked_at t) 0 (omega arith)
+  name_there = get_or-set_same columns (first_name + u) (marked_at t) 0 (omega arith)
 
-  pub name-elsewhere : (k : ℕ) → (k ≡ first_name + u → ⊥) → column_at (with_name columns u t) k ≡ column_at columns k
+  pub name_elsewhere : (k : ℕ) → (k ≡ first_name + u → ⊥) → column_at (with_name columns u t) k ≡ column_at columns k
   unfolding column_at with_name
-  name-elsewhere k ne = get_or-set_other columns (first_name + u) k (marked_at t) 0 ne
+  name_elsewhere k ne = get_or-set_other columns (first_name + u) k (marked_at t) 0 ne
 
-  pub name-long : length (with_name columns u t) ≡ 19
+  pub name_long : length (with_name columns u t) ≡ 19
   unfolding with_name
-  name-long = length-set columns (first_name + u) (marked_at t) ∙ long
+  name_long = length-set columns (first_name + u) (marked_at t) ∙ long
 
 -- ---- the three names on the cycles of a list
 module _ (columns cycles : List ℕ) (long : length columns ≡ 19) where
@@ -83,23 +83,23 @@ module _ (columns cycles : List ℕ) (long : length columns ≡ 19) where
   abbrev two : List ℕ
   two = with_name one 1 (get_or cycles 1 0)
 
-  long-one : length one ≡ 19
-  long-one = name-long columns 0 (get_or cycles 0 0) (omega arith) long
+  long_one : length one ≡ 19
+  long_one = name_long columns 0 (get_or cycles 0 0) (omega arith) long
 
-  long-two : length two ≡ 19
-  long-two = name-long one 1 (get_or cycles 1 0) (omega arith) long-one
+  long_two : length two ≡ 19
+  long_two = name_long one 1 (get_or cycles 1 0) (omega arith) long_one
 
-  pub names-long : length (with_names columns cycles) ≡ 19
+  pub names_long : length (with_names columns cycles) ≡ 19
   unfolding with_names
-  names-long = name-long two 2 (get_or cycles 2 0) (omega arith) long-two
+  names_long = name_long two 2 (get_or cycles 2 0) (omega arith) long_two
 
   -- the columns of the signals stay
-  pub names-signal : (k : ℕ) → (k < 16) ⊎ (18 < k) → column_at (with_names columns cycles) k ≡ column_at columns k
+  pub names_signal : (k : ℕ) → (k < 16) ⊎ (18 < k) → column_at (with_names columns cycles) k ≡ column_at columns k
   unfolding with_names
-  names-signal k h =
-      name-elsewhere two 2 (get_or cycles 2 0) (omega arith) long-two k (λ e. off {u = 2} h e (omega arith))
-      ∙ name-elsewhere one 1 (get_or cycles 1 0) (omega arith) long-one k (λ e. off {u = 1} h e (omega arith))
-      ∙ name-elsewhere columns 0 (get_or cycles 0 0) (omega arith) long k (λ e. off {u = 0} h e (omega arith))
+  names_signal k h =
+      name_elsewhere two 2 (get_or cycles 2 0) (omega arith) long_two k (λ e. off {u = 2} h e (omega arith))
+      ∙ name_elsewhere one 1 (get_or cycles 1 0) (omega arith) long_one k (λ e. off {u = 1} h e (omega arith))
+      ∙ name_elsewhere columns 0 (get_or cycles 0 0) (omega arith) long k (λ e. off {u = 0} h e (omega arith))
     where
       off : {k u : ℕ} → (k < 16) ⊎ (18 < k) → k ≡ 16 + u → u < 3 → ⊥
       off (inl a) e l = omega arith
@@ -108,18 +108,18 @@ module _ (columns cycles : List ℕ) (long : length columns ≡ 19) where
   pub names_at : (u : ℕ) → u < 3 → column_at (with_names columns cycles) (first_name + u) ≡ marked_at (standing cycles u)
   unfolding with_names standing
   names_at zero h =
-      name-elsewhere two 2 (get_or cycles 2 0) (omega arith) long-two 16 (λ e. omega arith)
-      ∙ name-elsewhere one 1 (get_or cycles 1 0) (omega arith) long-one 16 (λ e. omega arith)
-      ∙ name-there columns 0 (get_or cycles 0 0) (omega arith) long
+      name_elsewhere two 2 (get_or cycles 2 0) (omega arith) long_two 16 (λ e. omega arith)
+      ∙ name_elsewhere one 1 (get_or cycles 1 0) (omega arith) long_one 16 (λ e. omega arith)
+      ∙ name_there columns 0 (get_or cycles 0 0) (omega arith) long
   names_at (suc zero) h =
-      name-elsewhere two 2 (get_or cycles 2 0) (omega arith) long-two 17 (λ e. omega arith)
-      ∙ name-there one 1 (get_or cycles 1 0) (omega arith) long-one
-  names_at (suc (suc zero)) h = name-there two 2 (get_or cycles 2 0) (omega arith) long-two
+      name_elsewhere two 2 (get_or cycles 2 0) (omega arith) long_two 17 (λ e. omega arith)
+      ∙ name_there one 1 (get_or cycles 1 0) (omega arith) long_one
+  names_at (suc (suc zero)) h = name_there two 2 (get_or cycles 2 0) (omega arith) long_two
   names_at (suc (suc (suc u))) h = absurd (omega arith)
 
   -- they tell the same trace
-  pub names-told : (n : ℕ) → trace_of n (with_names columns cycles) ≡ trace_of n columns
-  names-told n = told_same n (with_names columns cycles) columns (λ k h. names-signal k (inl h))
+  pub names_told : (n : ℕ) → trace_of n (with_names columns cycles) ≡ trace_of n columns
+  names_told n = told_same n (with_names columns cycles) columns (λ k h. names_signal k (inl h))
 
 -- the names put one after another
 pub names_put : (columns one two three cycles : List ℕ) (a b c : ℕ) → a ≡ changed columns 0 (get_or cycles 0 0) → one ≡ with_name columns 0 (get_or cycles 0 0)
@@ -138,14 +138,14 @@ inside_all few i = record { stands = λ u h. let l = i.stands u h in omega arith
 -- they are columns of as many cycles
 pub names_columns : {n : ℕ} {columns : List ℕ} (cycles : List ℕ) → n ≤ 64 → Inside n cycles → IsColumns n columns
     → IsColumns n (with_names columns cycles)
-names_columns {n} {columns} cycles few inside c = record { all = names-long columns cycles c.all; short = short }
+names_columns {n} {columns} cycles few inside c = record { all = names_long columns cycles c.all; short = short }
   where
     short : (k : ℕ) → column_at (with_names columns cycles) k < 2 ^ n
     short k =
         elim (test (ltb k 16)) [
-          | inl e ↦ rw (names-signal columns cycles c.all k (inl (ltb-true k 16 e))) (c.short k)
+          | inl e ↦ rw (names_signal columns cycles c.all k (inl (ltb-true k 16 e))) (c.short k)
           | inr e ↦ elim (test (ltb 18 k)) [
-            | inl f ↦ rw (names-signal columns cycles c.all k (inr (ltb-true 18 k f))) (c.short k)
+            | inl f ↦ rw (names_signal columns cycles c.all k (inr (ltb-true 18 k f))) (c.short k)
             | inr f ↦
                 let low = ltb-false k 16 e in
                 let high = ltb-false 18 k f in

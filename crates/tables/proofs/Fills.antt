@@ -19,16 +19,16 @@ use Rattle.stored.specs.declared.Node.{Node}
 use Rattle.traces.specs.Columns.{IsColumns, trace_of, marks_of}
 use Rattle.stored.specs.Node.{requirement_sorts, sort_of, node_at}
 use Rattle.stored.specs.Reach.{reach_at, reach_table}
-use Rattle.stored.proofs.Rules.{length-inOrder}
+use Rattle.stored.proofs.Rules.{length_in_order}
 use Rattle.stored.specs.Tree.{earlier, proposition_op, formula_op, formula_of, proposition_at, formula_at}
-use Rattle.stored.proofs.Tree.{operands, proposition-law, formula-law}
+use Rattle.stored.proofs.Tree.{operands, proposition_law, formula_law}
 use Rattle.tables.specs.Table.{row_at, Table, Tables}
 use Rattle.tables.specs.Ready.{Given, Ready, Before, Filled, Kept, apart}
 use Rattle.tables.specs.Step.{column_of, first_column, second_column, row_of, Empty, Cleared}
 use Rattle.tables.proofs.Rows.{joined_chosen, joined_ext}
 use Rattle.tables.proofs.Columns.{tells}
-use Rattle.tables.proofs.Nodes.{operands-at, usable}
-use Rattle.tables.proofs.Meaning.{Column, Columns, column-is, Rows, Lines, line-is}
+use Rattle.tables.proofs.Nodes.{operands_at, usable}
+use Rattle.tables.proofs.Meaning.{Column, Columns, column_is, Rows, Lines, line_is}
 
 -- a stored row, and the rows beside it
 pub row_set : (words : List ℕ) (i b v : ℕ) → 64 * i + b < length words → row_at (set words (64 * i + b) v) i b ≡ v
@@ -94,13 +94,13 @@ module _ {x : ℕ → Node} {σ : Trace} {μ : Marks} {n : ℕ} (few : n ≤ 64)
         column = λ s. same 0 (omega arith) ∙ t.column s;
       }
 
-  pub before-kept : (i : ℕ) (old new : List ℕ) → ((k c : ℕ) → c < 64 → (k ≡ i → ⊥) → row_at new k c ≡ row_at old k c) → Before x σ μ n old i → Before x σ μ n new i
-  before-kept i old new same t =
+  pub before_kept : (i : ℕ) (old new : List ℕ) → ((k c : ℕ) → c < 64 → (k ≡ i → ⊥) → row_at new k c ≡ row_at old k c) → Before x σ μ n old i → Before x σ μ n new i
+  before_kept i old new same t =
       record { earlier = λ k h. table_kept old new k (λ c l. same k c l (λ e. let z : k < i = h in omega arith)) (t.earlier k h) }
 
   -- where node i was filled
-  put-at : (i : ℕ) (old new : List ℕ) (k : ℕ) → Filled x σ μ n i old new → ((k ≡ i → ⊥) → Table x σ μ n old k) → Table x σ μ n new k
-  put-at i old new k f t =
+  put_at_lem : (i : ℕ) (old new : List ℕ) (k : ℕ) → Filled x σ μ n i old new → ((k ≡ i → ⊥) → Table x σ μ n old k) → Table x σ μ n new k
+  put_at_lem i old new k f t =
       elim (test (eqb k i)) [
         | inl s ↦ subst (λ (j : ℕ). Table x σ μ n new j) (sym (eqb-true k i s)) f.done
         | inr s ↦ (let ne = eqb-false k i s in table_kept old new k (λ c l. f.others k c l ne) (t ne))
@@ -110,9 +110,9 @@ module _ {x : ℕ → Node} {σ : Trace} {μ : Marks} {n : ℕ} (few : n ≤ 64)
   partly_none i words = record { later = λ c l h. absurd (omega arith); beside = λ k c l ne. refl }
 
   -- row b - 1 is right already
-  pub partly-there : (i b : ℕ) (old new : List ℕ) → 0 < b → row_at new i (b - 1) ≡ row n (holds (formula_at x i) σ μ) (b - 1)
+  pub partly_there : (i b : ℕ) (old new : List ℕ) → 0 < b → row_at new i (b - 1) ≡ row n (holds (formula_at x i) σ μ) (b - 1)
       → Partly x σ μ n i b old new → Partly x σ μ n i (b - 1) old new
-  partly-there i b old new p e t =
+  partly_there i b old new p e t =
       record {
         later = λ c l u.
             elim (test (eqb c (b - 1))) [
@@ -126,28 +126,28 @@ module _ {x : ℕ → Node} {σ : Trace} {μ : Marks} {n : ℕ} (few : n ≤ 64)
   pub partly_more : (i b v : ℕ) (old new : List ℕ) → 0 < b → b ≤ n → 64 * i + (b - 1) < length new
       → v ≡ row n (holds (formula_at x i) σ μ) (b - 1) → Partly x σ μ n i b old new → Partly x σ μ n i (b - 1) old (set new (64 * i + (b - 1)) v)
   partly_more i b v old new p m h e t =
-      partly-there i b old (set new (64 * i + (b - 1)) v) p (row_set new i (b - 1) v h ∙ e)
+      partly_there i b old (set new (64 * i + (b - 1)) v) p (row_set new i (b - 1) v h ∙ e)
       (record {
         later = λ c l u. row_other new i (b - 1) v i c (omega arith) (omega arith) (λ _ y. absurd (omega arith)) ∙ t.later c l u;
         beside = λ k c l ne. row_other new i (b - 1) v k c (omega arith) l (λ y _. ne y) ∙ t.beside k c l ne;
       })
 
-  pub partly-all : (i b : ℕ) (old new : List ℕ) → b ≡ 0 → sort_of requirement_sorts (x i).op ≡ 2 → Partly x σ μ n i b old new → Filled x σ μ n i old new
-  partly-all i b old new z s t =
+  pub partly_all : (i b : ℕ) (old new : List ℕ) → b ≡ 0 → sort_of requirement_sorts (x i).op ≡ 2 → Partly x σ μ n i b old new → Filled x σ μ n i old new
+  partly_all i b old new z s t =
       record {
         done = record { rows = λ _ c h. t.later c (omega arith) h; column = λ u. absurd (omega arith) };
         others = t.beside;
       }
 
   -- a fill of node i whose rows were cleared before it
-  pub filled-cleared : (i : ℕ) (old clear new : List ℕ) → Cleared i n old clear → Filled x σ μ n i clear new → Filled x σ μ n i old new
-  filled-cleared i old clear new c f =
+  pub filled_cleared : (i : ℕ) (old clear new : List ℕ) → Cleared i n old clear → Filled x σ μ n i clear new → Filled x σ μ n i old new
+  filled_cleared i old clear new c f =
       record { done = f.done; others = λ k b l ne. f.others k b l ne ∙ c.beside k b l ne }
 
   -- a proposition's column
-  pub column-put : (i v place : ℕ) (old : List ℕ) → place ≡ 64 * i → 64 * i + 64 ≤ length old → sort_of requirement_sorts (x i).op ≡ 1
+  pub column_put : (i v place : ℕ) (old : List ℕ) → place ≡ 64 * i → 64 * i + 64 ≤ length old → sort_of requirement_sorts (x i).op ≡ 1
       → v ≡ word n (λ t. holds_at (proposition_at x i) σ μ t) → Filled x σ μ n i old (set old place v)
-  column-put i v place old p h s e =
+  column_put i v place old p h s e =
       let start : 64 * i + 0 ≡ place = omega arith in
       subst (λ (k : ℕ). Filled x σ μ n i old (set old k v)) start
       (record {
@@ -163,27 +163,27 @@ module _ {nodes : List ℕ} {count n : ℕ} {columns words : List ℕ} (g : Give
   abbrev μ : Marks
   μ = marks_of columns
 
-  pub column-law : (old : List ℕ) → Before (node_at nodes) σ μ n old i → sort_of requirement_sorts (node_at nodes i).op ≡ 1
+  pub column_law : (old : List ℕ) → Before (node_at nodes) σ μ n old i → sort_of requirement_sorts (node_at nodes i).op ≡ 1
       → column_of (proposition_op (node_at nodes i).op) (node_at nodes i) n columns old ≡ word n (λ t. holds_at (proposition_at (node_at nodes) i) σ μ t)
   unfolding Columns Column
-  column-law old before s =
-      let o = operands requirement_sorts (node_at nodes) i (operands-at g i h) in
-      column-is (node_at nodes i) n columns σ μ old (tells n columns g.columned) g.few_cycles (proposition_at (node_at nodes)) (node_at nodes i).op s
+  column_law old before s =
+      let o = operands requirement_sorts (node_at nodes) i (operands_at g i h) in
+      column_is (node_at nodes i) n columns σ μ old (tells n columns g.columned) g.few_cycles (proposition_at (node_at nodes)) (node_at nodes i).op s
       (usable g i h).a_signal_holds
       (λ e. (before.earlier (node_at nodes i).a (o.a_proposition e).less).column (o.a_proposition e).sorted)
       (λ e. (before.earlier (node_at nodes i).b (o.b_proposition e).less).column (o.b_proposition e).sorted)
-      ∙ ap (λ (q : Proposition). word n (λ t. holds_at q σ μ t)) (sym (proposition-law requirement_sorts (node_at nodes) i (operands-at g i h)))
+      ∙ ap (λ (q : Proposition). word n (λ t. holds_at q σ μ t)) (sym (proposition_law requirement_sorts (node_at nodes) i (operands_at g i h)))
 
-  pub row-law : (old now : List ℕ) (first second b : ℕ) → b < n → Before (node_at nodes) σ μ n old i
+  pub row_law : (old now : List ℕ) (first second b : ℕ) → b < n → Before (node_at nodes) σ μ n old i
       → Before (node_at nodes) σ μ n now i → sort_of requirement_sorts (node_at nodes i).op ≡ 2
       → first ≡ first_column (node_at nodes i).op (node_at nodes i) columns old
       → second ≡ second_column (node_at nodes i).op (node_at nodes i) columns
       → ((c : ℕ) → b < c → c < n → row_at now i c ≡ row n (holds (formula_at (node_at nodes) i) σ μ) c)
       → row_of (formula_op (node_at nodes i).op) (node_at nodes i) n first second now i b ≡ row n (holds (formula_at (node_at nodes) i) σ μ) b
   unfolding Lines Column Rows
-  row-law old now first second b inside was before s u v later =
-      let o = operands requirement_sorts (node_at nodes) i (operands-at g i h) in
-      line-is (node_at nodes i) n columns σ μ now (tells n columns g.columned) g.few_cycles (proposition_at (node_at nodes)) (formula_at (node_at nodes)) old
+  row_law old now first second b inside was before s u v later =
+      let o = operands requirement_sorts (node_at nodes) i (operands_at g i h) in
+      line_is (node_at nodes i) n columns σ μ now (tells n columns g.columned) g.few_cycles (proposition_at (node_at nodes)) (formula_at (node_at nodes)) old
       first second i b inside (node_at nodes i).op s (usable g i h).a_signal_holds u v
       (λ d. (was.earlier (node_at nodes i).a (o.a_proposition d).less).column (o.a_proposition d).sorted)
       (λ d. (before.earlier (node_at nodes i).a (o.a_formula d).less).rows (o.a_formula d).sorted)
@@ -192,33 +192,33 @@ module _ {nodes : List ℕ} {count n : ℕ} {columns words : List ℕ} (g : Give
       ∙ ap (λ (f : Formula). row n (holds f σ μ) b) (sym law)
     where
       law : formula_at (node_at nodes) i ≡ formula_of (formula_op (node_at nodes i).op) (node_at nodes i) (proposition_at (node_at nodes)) (formula_at (node_at nodes))
-      law = formula-law requirement_sorts (node_at nodes) i (operands-at g i h)
+      law = formula_law requirement_sorts (node_at nodes) i (operands_at g i h)
 
       Is : Formula → Type 0
       Is f = (c : ℕ) → b < c → c < n → row_at now i c ≡ row n (holds f σ μ) c
 
   -- row b - 1 of node i, which was read as y, where the later rows are right
-  pub row-right : (y : Node) (first second b v : ℕ) (old now : List ℕ) → y ≡ node_at nodes i → sort_of requirement_sorts (node_at nodes i).op ≡ 2
+  pub row_right : (y : Node) (first second b v : ℕ) (old now : List ℕ) → y ≡ node_at nodes i → sort_of requirement_sorts (node_at nodes i).op ≡ 2
       → 0 < b → b ≤ n → Before (node_at nodes) σ μ n old i
       → first ≡ first_column y.op y columns old → second ≡ second_column y.op y columns
       → v ≡ row_of (formula_op y.op) y n first second now i (b - 1)
       → Partly (node_at nodes) σ μ n i b old now → v ≡ row n (holds (formula_at (node_at nodes) i) σ μ) (b - 1)
-  row-right y first second b v old now e s p m before u w r t =
+  row_right y first second b v old now e s p m before u w r t =
       r
       ∙ ap (λ (x : Node). row_of (formula_op x.op) x n first second now i (b - 1)) e
-      ∙ row-law old now first second (b - 1) (omega arith) before (before-kept g.few_cycles i old now t.beside before) s
+      ∙ row_law old now first second (b - 1) (omega arith) before (before_kept g.few_cycles i old now t.beside before) s
       (u ∙ ap (λ (x : Node). first_column x.op x columns old) e) (w ∙ ap (λ (x : Node). second_column x.op x columns) e)
       (λ c a z. t.later c (omega arith) z)
 
   -- that row written
-  pub partly-row : (y : Node) (first second b v : ℕ) (old now : List ℕ) → y ≡ node_at nodes i → sort_of requirement_sorts (node_at nodes i).op ≡ 2
+  pub partly_row : (y : Node) (first second b v : ℕ) (old now : List ℕ) → y ≡ node_at nodes i → sort_of requirement_sorts (node_at nodes i).op ≡ 2
       → 0 < b → b ≤ n → length now ≡ length words → Before (node_at nodes) σ μ n old i
       → first ≡ first_column y.op y columns old → second ≡ second_column y.op y columns
       → v ≡ row_of (formula_op y.op) y n first second now i (b - 1)
       → Partly (node_at nodes) σ μ n i b old now → Partly (node_at nodes) σ μ n i (b - 1) old (set now (64 * i + (b - 1)) v)
-  partly-row y first second b v old now e s p m l before u w r t =
+  partly_row y first second b v old now e s p m l before u w r t =
       partly_more g.few_cycles i b v old now p m (omega (arith, g.few_cycles, g.words_long))
-      (row-right y first second b v old now e s p m before u w r t) t
+      (row_right y first second b v old now e s p m before u w r t) t
 
 -- other columns, and other words of the same length
 pub given_other : {nodes : List ℕ} {count n : ℕ} {columns old : List ℕ} (columns' new : List ℕ) → IsColumns n columns' → length new ≡ length old
@@ -253,18 +253,18 @@ pub sofar_all : {x : ℕ → Node} {count n : ℕ} {reach : List ℕ} {moved : �
 sofar_all i words l t = record { table = λ k m. t.right k (omega arith) }
 
 module _ {x : ℕ → Node} {count : ℕ} {σ : Trace} {μ : Marks} {n : ℕ} {reach : List ℕ} {moved : ℕ} (few : n ≤ 64) where
-  pub sofar-before : (i : ℕ) (words : List ℕ) → Sofar x count σ μ n reach moved i words → Before x σ μ n words i
-  sofar-before i words t = record { earlier = t.right }
+  pub sofar_before : (i : ℕ) (words : List ℕ) → Sofar x count σ μ n reach moved i words → Before x σ μ n words i
+  sofar_before i words t = record { earlier = t.right }
 
-  pub sofar-put : (i : ℕ) (old new : List ℕ) → Filled x σ μ n i old new → Sofar x count σ μ n reach moved i old → Sofar x count σ μ n reach moved (i + 1) new
-  sofar-put i old new f t =
+  pub sofar_put : (i : ℕ) (old new : List ℕ) → Filled x σ μ n i old new → Sofar x count σ μ n reach moved i old → Sofar x count σ μ n reach moved (i + 1) new
+  sofar_put i old new f t =
       record {
-        right = λ k l. put-at few i old new k f (λ ne. t.right k (omega arith));
-        rest = λ k l u. put-at few i old new k f (λ ne. t.rest k l u);
+        right = λ k l. put_at_lem few i old new k f (λ ne. t.right k (omega arith));
+        rest = λ k l u. put_at_lem few i old new k f (λ ne. t.rest k l u);
       }
 
-  pub sofar-skip : (i : ℕ) (words : List ℕ) → i < count → apart reach moved i ≡ true → Sofar x count σ μ n reach moved i words → Sofar x count σ μ n reach moved (i + 1) words
-  sofar-skip i words l a t =
+  pub sofar_skip : (i : ℕ) (words : List ℕ) → i < count → apart reach moved i ≡ true → Sofar x count σ μ n reach moved i words → Sofar x count σ μ n reach moved (i + 1) words
+  sofar_skip i words l a t =
       record {
         right = λ k m.
             elim (test (eqb k i)) [
@@ -275,16 +275,16 @@ module _ {x : ℕ → Node} {count : ℕ} {σ : Trace} {μ : Marks} {n : ℕ} {r
       }
 
   -- a turn, where `got` has the words after it
-  pub sofar-turn : (i : ℕ) (start old new got : List ℕ) → got ≡ new → length new ≡ length old → length old ≡ length start
+  pub sofar_turn : (i : ℕ) (start old new got : List ℕ) → got ≡ new → length new ≡ length old → length old ≡ length start
       → Filled x σ μ n i old new → Sofar x count σ μ n reach moved i old → (length got ≡ length start) × Sofar x count σ μ n reach moved (i + 1) got
-  sofar-turn i start old new got e l m f t =
-      subst (λ (w : List ℕ). (length w ≡ length start) × Sofar x count σ μ n reach moved (i + 1) w) (sym e) (l ∙ m, sofar-put i old new f t)
+  sofar_turn i start old new got e l m f t =
+      subst (λ (w : List ℕ). (length w ≡ length start) × Sofar x count σ μ n reach moved (i + 1) w) (sym e) (l ∙ m, sofar_put i old new f t)
 
-  pub sofar-pass : (i : ℕ) (start old got : List ℕ) → got ≡ old → length old ≡ length start → i < count → apart reach moved i ≡ true
+  pub sofar_pass : (i : ℕ) (start old got : List ℕ) → got ≡ old → length old ≡ length start → i < count → apart reach moved i ≡ true
       → Sofar x count σ μ n reach moved i old → (length got ≡ length start) × Sofar x count σ μ n reach moved (i + 1) got
-  sofar-pass i start old got e m l a t =
-      subst (λ (w : List ℕ). (length w ≡ length start) × Sofar x count σ μ n reach moved (i + 1) w) (sym e) (m, sofar-skip i old l a t)
+  sofar_pass i start old got e m l a t =
+      subst (λ (w : List ℕ). (length w ≡ length start) × Sofar x count σ μ n reach moved (i + 1) w) (sym e) (m, sofar_skip i old l a t)
 
 pub reach_long : {nodes : List ℕ} {count n : ℕ} {reach columns words : List ℕ} → Ready nodes count n reach columns words → length reach ≡ 64
 unfolding reach_table
-reach_long {nodes} {count} r = ap length r.reached ∙ length-inOrder 64 (earlier count 0 (reach_at (node_at nodes)))
+reach_long {nodes} {count} r = ap length r.reached ∙ length_in_order 64 (earlier count 0 (reach_at (node_at nodes)))

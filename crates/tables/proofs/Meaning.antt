@@ -13,7 +13,7 @@ use Rattle.semantics.proofs.Tests.{and_true_right}
 use Rattle.rows.specs.Row.{word, row, joined, starred}
 use Rattle.rows.proofs.Bits.{bit_nothing}
 use Rattle.rows.proofs.Rows.{word_small, word_bit, is_word_lem, is_word_in, word_and, word_or, word_not}
-use Rattle.rows.proofs.Formulas.{point-holds, stretch-holds, whole-holds, unit-holds, chop-holds, conjunction-holds, disjunction-holds, star-holds, slen-holds, scount-holds, sdur-holds, drawn-holds, at-holds, gap_holds}
+use Rattle.rows.proofs.Formulas.{point_holds, stretch_holds, whole_holds, unit_holds, chop_holds, conjunction_holds, disjunction_holds, star_holds, slen_holds, scount_holds, sdur_holds, drawn_holds, at_holds, gap_holds}
 use Rattle.stored.specs.declared.Node.{Node}
 use Rattle.stored.specs.Node.{requirement_sorts, sort_of, a_use, b_use, q_use}
 use Rattle.stored.specs.Tree.{proposition_op, formula_op, proposition_of, formula_of, comparison_of, symbol_of}
@@ -41,9 +41,9 @@ module _ (x : Node) (n : ℕ) (columns : List ℕ) (σ : Trace) (μ : Marks) (wo
       sort_of requirement_sorts k ≡ 1 → (a_use k ≡ 1 → x.a < 16) → (a_use k ≡ 7 → Column words x.a) → (b_use k ≡ 7 → Column words x.b)
       → column_of (proposition_op k) x n columns words ≡ word n (λ t. holds_at (proposition_of (proposition_op k) x p) σ μ t)
 
-  pub column-is : (k : ℕ) → Columns k
+  pub column_is : (k : ℕ) → Columns k
   unfolding Columns Column sort_of a_use b_use column_of proposition_op proposition_of holds_at
-  column-is k =
+  column_is k =
       proposition_cases Columns
       (λ s h f g. none_is n)
       (λ s h f g. all_in n few)
@@ -56,8 +56,8 @@ module _ (x : Node) (n : ℕ) (columns : List ℕ) (σ : Trace) (μ : Marks) (wo
       (λ none s h f g. absurd (is_proposition k s none))
 
   -- a column agrees with its test at the cycles of the trace
-  column-bit : (column : ℕ) (q : ℕ → Bool) → column ≡ word n q → (t : ℕ) → t < n → bit column t ≡ q t
-  column-bit column q e t l = ap (λ (z : ℕ). bit z t) e ∙ word_bit n q t l
+  column_bit : (column : ℕ) (q : ℕ → Bool) → column ≡ word n q → (t : ℕ) → t < n → bit column t ≡ q t
+  column_bit column q e t l = ap (λ (z : ℕ). bit z t) e ∙ word_bit n q t l
 
   -- `old` has the columns that `first` and `second` were made from
   module _ (f : ℕ → Formula) (old : List ℕ) (first second own b : ℕ) (inside : b < n) where
@@ -74,35 +74,35 @@ module _ (x : Node) (n : ℕ) (columns : List ℕ) (σ : Trace) (μ : Marks) (wo
     -- the column of the node's proposition
     held : first ≡ row_at old x.a 0 → Column old x.a → (t : ℕ) → t < n → bit first t ≡ holds_at (p x.a) σ μ t
     unfolding Column
-    held e g t l = column-bit first (λ t. holds_at (p x.a) σ μ t) (e ∙ g) t l
+    held e g t l = column_bit first (λ t. holds_at (p x.a) σ μ t) (e ∙ g) t l
 
-    pub line-is : (k : ℕ) → Lines k
+    pub line_is : (k : ℕ) → Lines k
     unfolding Lines Column Rows sort_of a_use b_use q_use first_column second_column row_of formula_op formula_of
-    line-is k =
+    line_is k =
         formula_cases Lines
-        (λ s h u v c r₁ r₂ later. point-holds n few σ μ b inside first (p x.a) (held u (c refl)))
-        (λ s h u v c r₁ r₂ later. stretch-holds n few σ μ b inside first (p x.a) (held u (c refl)))
-        (λ s h u v c r₁ r₂ later. whole-holds n few σ μ b inside first (p x.a) (held u (c refl)))
-        (λ s h u v c r₁ r₂ later. unit-holds n few σ μ b inside first (p x.a) (held u (c refl)))
+        (λ s h u v c r₁ r₂ later. point_holds n few σ μ b inside first (p x.a) (held u (c refl)))
+        (λ s h u v c r₁ r₂ later. stretch_holds n few σ μ b inside first (p x.a) (held u (c refl)))
+        (λ s h u v c r₁ r₂ later. whole_holds n few σ μ b inside first (p x.a) (held u (c refl)))
+        (λ s h u v c r₁ r₂ later. unit_holds n few σ μ b inside first (p x.a) (held u (c refl)))
         (λ s h u v c r₁ r₂ later.
         ap (λ (z : ℕ). joined z (row_at words x.b)) (r₁ refl b inside)
-        ∙ chop-holds n few σ μ b inside (f x.a) (f x.b) (row_at words x.b) (λ i m. r₂ refl i m))
+        ∙ chop_holds n few σ μ b inside (f x.a) (f x.b) (row_at words x.b) (λ i m. r₂ refl i m))
         (λ s h u v c r₁ r₂ later.
-        ap₂ bit_and (r₁ refl b inside) (r₂ refl b inside) ∙ conjunction-holds n few σ μ b inside (f x.a) (f x.b))
+        ap₂ bit_and (r₁ refl b inside) (r₂ refl b inside) ∙ conjunction_holds n few σ μ b inside (f x.a) (f x.b))
         (λ s h u v c r₁ r₂ later.
-        ap₂ bit_or (r₁ refl b inside) (r₂ refl b inside) ∙ disjunction-holds n few σ μ b inside (f x.a) (f x.b))
+        ap₂ bit_or (r₁ refl b inside) (r₂ refl b inside) ∙ disjunction_holds n few σ μ b inside (f x.a) (f x.b))
         (λ s h u v c r₁ r₂ later.
-        ap (λ (z : ℕ). starred z (row_at words own) b) (r₁ refl b inside) ∙ star-holds n few σ μ b inside (f x.a) (row_at words own) later)
-        (λ s h u v c r₁ r₂ later. slen-holds n few σ μ b inside (comparison_of x.q) x.b)
-        (λ s h u v c r₁ r₂ later. scount-holds n few σ μ b inside (comparison_of x.q) x.b first (p x.a) (held u (c refl)))
-        (λ s h u v c r₁ r₂ later. sdur-holds n few σ μ b inside (comparison_of x.q) x.b first (p x.a) (held u (c refl)))
+        ap (λ (z : ℕ). starred z (row_at words own) b) (r₁ refl b inside) ∙ star_holds n few σ μ b inside (f x.a) (row_at words own) later)
+        (λ s h u v c r₁ r₂ later. slen_holds n few σ μ b inside (comparison_of x.q) x.b)
+        (λ s h u v c r₁ r₂ later. scount_holds n few σ μ b inside (comparison_of x.q) x.b first (p x.a) (held u (c refl)))
+        (λ s h u v c r₁ r₂ later. sdur_holds n few σ μ b inside (comparison_of x.q) x.b first (p x.a) (held u (c refl)))
         (λ s h u v c r₁ r₂ later.
-        drawn-holds n few σ μ b inside (symbol_of x.q) x.a first
-        (column-bit first (λ t. signal_at σ x.a t) (u ∙ told.signal x.a (h refl))))
-        (λ s h u v c r₁ r₂ later. at-holds n few σ μ b inside x.a first (column-bit first (λ t. μ x.a t) (u ∙ told.name x.a)))
+        drawn_holds n few σ μ b inside (symbol_of x.q) x.a first
+        (column_bit first (λ t. signal_at σ x.a t) (u ∙ told.signal x.a (h refl))))
+        (λ s h u v c r₁ r₂ later. at_holds n few σ μ b inside x.a first (column_bit first (λ t. μ x.a t) (u ∙ told.name x.a)))
         (λ s h u v c r₁ r₂ later.
         gap_holds n few σ μ b inside (x.q / 16) (x.q % 16) first second x.a x.b
-        (column-bit first (λ t. μ (x.q / 16) t) (u ∙ told.name (x.q / 16))) (column-bit second (λ t. μ (x.q % 16) t) (v ∙ told.name (x.q % 16))))
+        (column_bit first (λ t. μ (x.q / 16) t) (u ∙ told.name (x.q / 16))) (column_bit second (λ t. μ (x.q % 16) t) (v ∙ told.name (x.q % 16))))
         (λ s h u v c r₁ r₂ later. absurd (omega arith))
         (λ s h u v c r₁ r₂ later. absurd (omega arith))
         k

@@ -20,11 +20,11 @@ use Rattle.stored.specs.Node.{node_at}
 use Rattle.stored.specs.Reach.{joint, name_mask, reach_at, covers, entry_of}
 use Rattle.stored.specs.Tree.{proposition_at, formula_at}
 use Rattle.traces.proofs.Columns.{told_length}
-use Rattle.stored.proofs.Reach.{NodesKept, reach-law, reach_small, table_at, each_bool, each_at}
+use Rattle.stored.proofs.Reach.{NodesKept, reach_law, reach_small, table_at, each_bool, each_at}
 use Rattle.stored.proofs.Rules.{asked, every_at}
 use Rattle.tables.specs.Table.{standing, Inside, Table, Tables}
 use Rattle.tables.specs.Ready.{Given, Ready, Kept, apart, marked_at, with_name, changed, with_names, changed_names}
-use Rattle.tables.proofs.Columns.{name-elsewhere, name-long, names_at, names-told, names_columns, names_marked}
+use Rattle.tables.proofs.Columns.{name_elsewhere, name_long, names_at, names_told, names_columns, names_marked}
 use Rattle.tables.proofs.Fills.{given_other}
 use Rattle.tables.proofs.Nodes.{nodes_kept}
 
@@ -33,7 +33,7 @@ pub table_alike : (s m count : ℕ) (x : ℕ → Node) (n : ℕ) (σ : Trace) (�
     → covers (reach_at x i) names ≡ true → ((u : ℕ) → names u ≡ true → (t : ℕ) → t < n → μ u t ≡ μ' u t)
     → Table x σ μ n words i → Table x σ μ' n words i
 table_alike s m count x n σ μ μ' words i names long kept h c same t =
-    let reached = reach-law s m count x kept names i h in
+    let reached = reach_law s m count x kept names i h in
     record {
       rows = λ sort b l.
           t.rows sort b l
@@ -99,33 +99,33 @@ module _ {nodes : List ℕ} {count n : ℕ} {reach columns words : List ℕ} (r 
     same : ℕ → Bool
     same u = eqb (column_at columns (first_name + u)) (marked_at (get_or cycles u 0))
 
-    moved-is : changed_names columns cycles ≡ moved_by (same 0) (same 1) (same 2)
+    moved_is : changed_names columns cycles ≡ moved_by (same 0) (same 1) (same 2)
     unfolding moved_by changed_names changed same name_mask
-    moved-is =
+    moved_is =
         let one = with_name columns 0 (get_or cycles 0 0) in
-        let one-long = name-long columns 0 (get_or cycles 0 0) (omega arith) long in
+        let one-long = name_long columns 0 (get_or cycles 0 0) (omega arith) long in
         rw (
-          name-elsewhere one 1 (get_or cycles 1 0) (omega arith) one-long 18 (λ e. omega arith),
-          name-elsewhere columns 0 (get_or cycles 0 0) (omega arith) long 18 (λ e. omega arith),
-          name-elsewhere columns 0 (get_or cycles 0 0) (omega arith) long 17 (λ e. omega arith),
+          name_elsewhere one 1 (get_or cycles 1 0) (omega arith) one-long 18 (λ e. omega arith),
+          name_elsewhere columns 0 (get_or cycles 0 0) (omega arith) long 18 (λ e. omega arith),
+          name_elsewhere columns 0 (get_or cycles 0 0) (omega arith) long 17 (λ e. omega arith),
         )
 
-    covers-stays : (z : ℕ) → covered z (same 0) (same 1) (same 2) ≡ true → covers z (stays columns (with_names columns cycles)) ≡ true
+    covers_stays : (z : ℕ) → covered z (same 0) (same 1) (same 2) ≡ true → covers z (stays columns (with_names columns cycles)) ≡ true
     unfolding covered covers stays same standing
-    covers-stays z c =
+    covers_stays z c =
         rw (names_at columns cycles long 0 (omega arith), names_at columns cycles long 1 (omega arith), names_at columns cycles long 2 (omega arith)) c
 
-    kept-moved : Tables (node_at nodes) count n columns words → Kept (node_at nodes) count n reach (changed_names columns cycles) (with_names columns cycles) words
+    kept_moved : Tables (node_at nodes) count n columns words → Kept (node_at nodes) count n reach (changed_names columns cycles) (with_names columns cycles) words
     unfolding apart stays marks_of
-    kept-moved t =
+    kept_moved t =
         record {
           kept = λ i h a.
               let z = reach_at (node_at nodes) i in
-              subst (λ (σ : Trace). Table (node_at nodes) σ (marks_of (with_names columns cycles)) n words i) (sym (names-told columns cycles long n))
+              subst (λ (σ : Trace). Table (node_at nodes) σ (marks_of (with_names columns cycles)) n words i) (sym (names_told columns cycles long n))
               (alike (trace_of n columns) (marks_of columns) (marks_of (with_names columns cycles)) i (stays columns (with_names columns cycles)) (told_length n columns) h
-              (covers-stays z
+              (covers_stays z
               (apart_covers z (same 0) (same 1) (same 2) (reach_small (node_at nodes) i)
-              (subst (λ (w : ℕ). eqb (bit_and (joint z 8) w) 0 ≡ true) moved-is (subst (λ (w : ℕ). eqb (bit_and (joint w 8) (changed_names columns cycles)) 0 ≡ true) (mask i h) a))))
+              (subst (λ (w : ℕ). eqb (bit_and (joint z 8) w) 0 ≡ true) moved_is (subst (λ (w : ℕ). eqb (bit_and (joint w 8) (changed_names columns cycles)) 0 ≡ true) (mask i h) a))))
               (λ u w t l. stayed u w t) (t.table i h));
         }
       where
@@ -137,7 +137,7 @@ module _ {nodes : List ℕ} {count n : ℕ} {reach columns words : List ℕ} (r 
         → moved ≡ changed_names columns cycles → Tables (node_at nodes) count n columns words
         → Given nodes count n columns' words × Kept (node_at nodes) count n reach moved columns' words
     moved_ready columns' moved inside e f t =
-        rw (e, f) (given_other (with_names columns cycles) words (names_columns cycles r.given.few_cycles inside r.given.columned) refl r.given, kept-moved t)
+        rw (e, f) (given_other (with_names columns cycles) words (names_columns cycles r.given.few_cycles inside r.given.columned) refl r.given, kept_moved t)
 
 -- on the first fill no node has its table yet
 pub kept_none : {x : ℕ → Node} {count n : ℕ} {columns words : List ℕ} → count ≤ 64 → Kept x count n (replicate 64 0) 8 columns words
@@ -157,16 +157,16 @@ pub table_placed : {nodes : List ℕ} {count n : ℕ} {reach words : List ℕ} (
 unfolding covers
 table_placed {nodes} {count} {n} {reach} {words} columns cycles r long t i h =
     alike r (trace_of n columns) (marks_of (with_names columns cycles)) (marks (standing cycles)) i (λ u. ltb u 3) (told_length n columns) h
-    (every-name (bit (reach_at (node_at nodes) i) 0) (bit (reach_at (node_at nodes) i) 1) (bit (reach_at (node_at nodes) i) 2))
+    (every_name (bit (reach_at (node_at nodes) i) 0) (bit (reach_at (node_at nodes) i) 1) (bit (reach_at (node_at nodes) i) 2))
     (λ u w t l. let few = r.given.few_cycles in names_marked columns cycles long u t (ltb-true u 3 w) (omega arith))
-    (subst (λ (σ : Trace). Table (node_at nodes) σ (marks_of (with_names columns cycles)) n words i) (names-told columns cycles long n) (t.table i h))
+    (subst (λ (σ : Trace). Table (node_at nodes) σ (marks_of (with_names columns cycles)) n words i) (names_told columns cycles long n) (t.table i h))
   where
-    every-name : (a b c : Bool) → ((not a || true) && ((not b || true) && (not c || true))) ≡ true
-    every-name true true true = refl
-    every-name true true false = refl
-    every-name true false true = refl
-    every-name true false false = refl
-    every-name false true true = refl
-    every-name false true false = refl
-    every-name false false true = refl
-    every-name false false false = refl
+    every_name : (a b c : Bool) → ((not a || true) && ((not b || true) && (not c || true))) ≡ true
+    every_name true true true = refl
+    every_name true true false = refl
+    every_name true false true = refl
+    every_name true false false = refl
+    every_name false true true = refl
+    every_name false true false = refl
+    every_name false false true = refl
+    every_name false false false = refl

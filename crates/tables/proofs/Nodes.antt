@@ -82,17 +82,17 @@ module _ {nodes : List ℕ} {count n : ℕ} {columns words : List ℕ} (g : Give
         operands_kept = every_at count (operands_right requirement_sorts (node_at nodes)) g.operands;
       }
 
-  pub operands-at : (i : ℕ) → i < count → operands_right requirement_sorts (node_at nodes) i ≡ true
-  operands-at i h = nodes_kept.operands_kept i h
+  pub operands_at : (i : ℕ) → i < count → operands_right requirement_sorts (node_at nodes) i ≡ true
+  operands_at i h = nodes_kept.operands_kept i h
 
   -- a node that is no proposition is a formula
-  pub node-sorted : (i : ℕ) → i < count → sort_of requirement_sorts (node_at nodes i).op ≡ 0 → ⊥
-  node-sorted i h = (node_kept g.signals g.names (node_at nodes i) (nodes_kept.fields i h)).sorted
+  pub node_sorted : (i : ℕ) → i < count → sort_of requirement_sorts (node_at nodes i).op ≡ 0 → ⊥
+  node_sorted i h = (node_kept g.signals g.names (node_at nodes i) (nodes_kept.fields i h)).sorted
 
   pub usable : (i : ℕ) → i < count → Usable (node_at nodes i) i
   usable i h =
       let k = node_kept g.signals g.names (node_at nodes i) (nodes_kept.fields i h) in
-      let o = operands requirement_sorts (node_at nodes) i (operands-at i h) in
+      let o = operands requirement_sorts (node_at nodes) i (operands_at i h) in
       record {
         a_signal_holds = λ e. let l = k.a_field.signal e in omega (arith, g.few_signals);
         a_name_holds = λ e. let l = k.a_field.name e in omega (arith, g.few_names);
@@ -107,17 +107,17 @@ module _ {nodes : List ℕ} {count n : ℕ} {columns words : List ℕ} (g : Give
       }
 
   -- a node that was read, with the ops of its sort
-  pub proposition-read : (i : ℕ) (r : Node) → i < count → r ≡ node_at nodes i → sort_of requirement_sorts (node_at nodes i).op ≡ 1 → Usable r i × Ops 1 8 r.op
-  proposition-read i r h e s =
+  pub proposition_read : (i : ℕ) (r : Node) → i < count → r ≡ node_at nodes i → sort_of requirement_sorts (node_at nodes i).op ≡ 1 → Usable r i × Ops 1 8 r.op
+  proposition_read i r h e s =
       subst (λ (y : Node). Usable y i × Ops 1 8 y.op) (sym e) (usable i h, proposition_ops (node_at nodes i).op s)
 
-  pub formula-read : (i : ℕ) (r : Node) → i < count → r ≡ node_at nodes i → sort_of requirement_sorts (node_at nodes i).op ≡ 2 → Usable r i × Ops 16 30 r.op
-  formula-read i r h e s =
+  pub formula_read : (i : ℕ) (r : Node) → i < count → r ≡ node_at nodes i → sort_of requirement_sorts (node_at nodes i).op ≡ 2 → Usable r i × Ops 16 30 r.op
+  formula_read i r h e s =
       subst (λ (y : Node). Usable y i × Ops 16 30 y.op) (sym e) (usable i h, formula_ops_lem (node_at nodes i).op s)
 
   -- a chop that was read
-  pub chop-read : (i : ℕ) (r : Node) → i < count → r ≡ node_at nodes i → (node_at nodes i).op ≡ 20 → Chop (node_at nodes) i r
-  chop-read i r h e o =
+  pub chop_read : (i : ℕ) (r : Node) → i < count → r ≡ node_at nodes i → (node_at nodes i).op ≡ 20 → Chop (node_at nodes) i r
+  chop_read i r h e o =
       let at : r.op ≡ 20 = ap (λ (y : Node). y.op) e ∙ o in
       let u = subst (λ (y : Node). Usable y i) (sym e) (usable i h) in
       let pair = pair_of r.op (omega arith) (omega arith) in
@@ -130,8 +130,8 @@ module _ {nodes : List ℕ} {count n : ℕ} {columns words : List ℕ} (g : Give
       }
 
   -- a star that was read
-  pub star-read : (i : ℕ) (r : Node) → i < count → r ≡ node_at nodes i → (node_at nodes i).op ≡ 23 → Star (node_at nodes) i r
-  star-read i r h e o =
+  pub star_read : (i : ℕ) (r : Node) → i < count → r ≡ node_at nodes i → (node_at nodes i).op ≡ 23 → Star (node_at nodes) i r
+  star_read i r h e o =
       let at : r.op ≡ 23 = ap (λ (y : Node). y.op) e ∙ o in
       let u = subst (λ (y : Node). Usable y i) (sym e) (usable i h) in
       record { op = at; formula = star_formula _ o; first = u.a_formula (joins_formula r.op (omega arith) (omega arith)) }

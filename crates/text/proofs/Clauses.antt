@@ -68,11 +68,11 @@ fields_bare type role = refl
 
 module _ {room type role : ℕ} {text : List ℕ} {ok : Bool} {at : ℕ} {x : List ℕ} {count : ℕ} where
   -- a part alone
-  pub one-read : {n : ℕ} {y : List ℕ} {p : GotPart} {r : GotParts} → n ≡ 0 → type < 256 → role < 256 → PartRead room text ok at x count y p
+  pub one_read : {n : ℕ} {y : List ℕ} {p : GotPart} {r : GotParts} → n ≡ 0 → type < 256 → role < 256 → PartRead room text ok at x count y p
       → WithFirst p (record { ok = p.ok; at = p.at; count = p.count; fields = bare type role }) r
       → PartsRead n room type role text ok at x count y r
   unfolding the_parts put_parts roots_of
-  one-read {y = y} {p = p} alone h₁ h₂ read with =
+  one_read {y = y} {p = p} alone h₁ h₂ read with =
       let root = with.root in
       let is = with.last_node in
       rw (alone, with.is)
@@ -118,35 +118,35 @@ module _ {room type role : ℕ} {text : List ℕ} {ok : Bool} {at : ℕ} {x : Li
     next : (List TypedPart → State) → TypedPart → State
     next s d = the_parts n (λ ds. s (d ∷ ds))
 
-    to-comma : (good : p.ok ≡ true) (s : List TypedPart → State)
+    to_comma : (good : p.ok ≡ true) (s : List TypedPart → State)
         → answer (run room (the_parts (suc n) s) (ahead text at))
         ≡ answer (run room (sign comma_sign (next s (read.took good).tree)) (ahead text p.at))
     unfolding the_parts next
-    to-comma good s = (read.took good).goes comma_sign (next s)
+    to_comma good s = (read.took good).goes comma_sign (next s)
 
-    to-others : (good : p.ok ≡ true) → comma.ok ≡ true → (s : List TypedPart → State)
+    to_others : (good : p.ok ≡ true) → comma.ok ≡ true → (s : List TypedPart → State)
         → answer (run room (the_parts (suc n) s) (ahead text at)) ≡ answer (run room (next s (read.took good).tree) (ahead text comma.at))
-    to-others good also s =
-        to-comma good s
+    to_others good also s =
+        to_comma good s
         ∙ ap (λ (ts : List Token). answer (run room (sign comma_sign (next s (read.took good).tree)) ts)) (comma-read.next also)
         ∙ ap answer (comma_run room (next s (read.took good).tree) (ahead text comma.at))
 
-    more-fails : ok ≡ true → q.ok ≡ false → (s : List TypedPart → State) → answer (run room (the_parts (suc n) s) (ahead text at)) ≡ none
+    more_fails : ok ≡ true → q.ok ≡ false → (s : List TypedPart → State) → answer (run room (the_parts (suc n) s) (ahead text at)) ≡ none
     unfolding next the_parts
-    more-fails all final s =
+    more_fails all final s =
         elim (test p.ok) [
           | inr bad ↦ read.fails all bad comma_sign (next s)
           | inl good ↦ elim (test comma.ok) [
-            | inr bad ↦ to-comma good s ∙ comma-read.fails good bad room (next s (read.took good).tree)
-            | inl also ↦ to-others good also s ∙ others.fails also final (λ ds. s ((read.took good).tree ∷ ds))
+            | inr bad ↦ to_comma good s ∙ comma-read.fails good bad room (next s (read.took good).tree)
+            | inl also ↦ to_others good also s ∙ others.fails also final (λ ds. s ((read.took good).tree ∷ ds))
           ]
         ]
 
-    more-took : (root : ℕ) → LastNode p.count root → q.ok ≡ true
+    more_took : (root : ℕ) → LastNode p.count root → q.ok ≡ true
         → PartsTook (suc n) room type role text at x count y
         (record { ok = q.ok; at = q.at; count = q.count; fields = shifted root p.mask q.fields })
     unfolding next put_parts roots_of
-    more-took root is final =
+    more_took root is final =
         let also = others.well final in
         let good = comma-read.well also in
         let d = read.took good in
@@ -163,7 +163,7 @@ module _ {room type role : ℕ} {text : List ℕ} {ok : Bool} {at : ℕ} {x : Li
         record {
           trees = d.tree ∷ ds.trees;
           as_many = ap suc ds.as_many;
-          goes = λ s. to-others good also s ∙ ds.goes (λ es. s (d.tree ∷ es));
+          goes = λ s. to_others good also s ∙ ds.goes (λ es. s (d.tree ∷ es));
           drafted = ds.drafted ∙ ap (put_parts ds.trees) d.drafted;
           fields = λ few.
               ap₂ (λ (root mask : ℕ). shifted root mask q.fields)
@@ -189,13 +189,13 @@ module _ {room type role : ℕ} {text : List ℕ} {ok : Bool} {at : ℕ} {x : Li
           taken = omega arith;
         }
 
-    pub more-read : {m : ℕ} {r : GotParts} → m ≡ suc n → WithFirst p q r → PartsRead m room type role text ok at x count y r
-    more-read one first =
+    pub more_read : {m : ℕ} {r : GotParts} → m ≡ suc n → WithFirst p q r → PartsRead m room type role text ok at x count y r
+    more_read one first =
         rw (one, first.is)
         (record {
           well = λ final. read.well (comma-read.well (others.well final));
-          took = more-took first.root first.last_node;
-          fails = more-fails;
+          took = more_took first.root first.last_node;
+          fails = more_fails;
         })
 
 -- where the next part may be read
@@ -357,60 +357,60 @@ module _ {role : ℕ} {text : List ℕ} {ok : Bool} {at : ℕ} {x : List ℕ} {c
   inside : (TypedClause → State) → State
   inside k = the_parts (used - 1) (after_parts type k)
 
-  to-open : word.ok ≡ true → (k : TypedClause → State)
+  to_open : word.ok ≡ true → (k : TypedClause → State)
       → answer (run 32 (a_clause k) (ahead text at)) ≡ answer (run 32 (sign open_round (inside k)) (ahead text word.at))
   unfolding type inside
-  to-open good k =
+  to_open good k =
       ap (λ (ts : List Token). answer (run 32 (a_clause k) ts)) (word_read.next good)
       ∙ ap answer
       (type_read 32 word.value k (ahead text word.at) known
       ∙ ap (λ used. run 32 (sign open_round (the_parts (used - 1) (after_parts type k))) (ahead text word.at)) (sym is-used))
 
-  to-parts : word.ok ≡ true → bracket.ok ≡ true → (k : TypedClause → State)
+  to_parts : word.ok ≡ true → bracket.ok ≡ true → (k : TypedClause → State)
       → answer (run 32 (a_clause k) (ahead text at)) ≡ answer (run 31 (inside k) (ahead text bracket.at))
-  to-parts good also k =
-      to-open good k
+  to_parts good also k =
+      to_open good k
       ∙ ap (λ (ts : List Token). answer (run 32 (sign open_round (inside k)) ts)) (open-read.next also)
       ∙ ap answer (open_sign 31 (inside k) (ahead text bracket.at))
 
-  to-close : word.ok ≡ true → bracket.ok ≡ true → (done : q.ok ≡ true) (k : TypedClause → State)
+  to_close : word.ok ≡ true → bracket.ok ≡ true → (done : q.ok ≡ true) (k : TypedClause → State)
       → answer (run 32 (a_clause k) (ahead text at))
       ≡ answer (run 31 (sign close_round (after_parts type k (read.took done).trees)) (ahead text q.at))
   unfolding type inside
-  to-close good also done k = to-parts good also k ∙ (read.took done).goes (after_parts type k)
+  to_close good also done k = to_parts good also k ∙ (read.took done).goes (after_parts type k)
 
-  clause-fails : ok ≡ true → close.ok ≡ false → (k : TypedClause → State) → answer (run 32 (a_clause k) (ahead text at)) ≡ none
+  clause_fails : ok ≡ true → close.ok ≡ false → (k : TypedClause → State) → answer (run 32 (a_clause k) (ahead text at)) ≡ none
   unfolding type inside
-  clause-fails all final k =
+  clause_fails all final k =
       elim (test word.ok) [
         | inr bad ↦ word_read.fails all bad 32 k
         | inl good ↦ elim (test bracket.ok) [
-          | inr bad ↦ to-open good k ∙ open-read.fails good bad 32 (inside k)
+          | inr bad ↦ to_open good k ∙ open-read.fails good bad 32 (inside k)
           | inl also ↦ elim (test q.ok) [
-            | inr bad ↦ to-parts good also k ∙ read.fails also bad (after_parts type k)
-            | inl done ↦ to-close good also done k ∙ closed.fails done final 31 (after_parts type k (read.took done).trees)
+            | inr bad ↦ to_parts good also k ∙ read.fails also bad (after_parts type k)
+            | inl done ↦ to_close good also done k ∙ closed.fails done final 31 (after_parts type k (read.took done).trees)
           ]
         ]
       ]
 
-  pub clause-unread : {u : List ℕ} {many : ℕ} {v : List ℕ} {r : GotClause} → close.ok ≡ false → r.ok ≡ false
+  pub clause_unread : {u : List ℕ} {many : ℕ} {v : List ℕ} {r : GotClause} → close.ok ≡ false → r.ok ≡ false
       → LineRead a_clause has_clause (put_typed role) text ok at x count u many y v r
-  clause-unread final unread =
+  clause_unread final unread =
       record {
         well = λ good. absurd (true≢false (sym good ∙ unread));
         took = λ good. absurd (true≢false (sym good ∙ unread));
-        fails = λ all _. clause-fails all final;
+        fails = λ all _. clause_fails all final;
       }
 
   pub clause_fits_lem : close.ok ≡ true → ClauseFits q.fields
   clause_fits_lem final = (read.took (closed.well final)).fits
 
-  pub clause-well : close.ok ≡ true → ok ≡ true
-  clause-well final = word_read.well (open-read.well (read.well (closed.well final)))
+  pub clause_well : close.ok ≡ true → ok ≡ true
+  clause_well final = word_read.well (open-read.well (read.well (closed.well final)))
 
   -- it took bytes of the text
-  pub clause-onward : close.ok ≡ true → (at < close.at) × (close.at ≤ length text)
-  clause-onward final =
+  pub clause_onward : close.ok ≡ true → (at < close.at) × (close.at ≤ length text)
+  clause_onward final =
       let done = closed.well final in
       let also = read.well done in
       let good = open-read.well also in
@@ -442,7 +442,7 @@ module _ {role : ℕ} {text : List ℕ} {ok : Bool} {at : ℕ} {x : List ℕ} {c
             record {
               tree = f.clause;
               goes = λ k.
-                  to-close good also done k
+                  to_close good also done k
                   ∙ ap (λ (ts : List Token). answer (run 31 (sign close_round (after_parts type k ds.trees)) ts)) (closed.next final)
                   ∙ ap answer (close_run 31 (after_parts type k ds.trees) (ahead text close.at))
                   ∙ ap (λ (s : State). answer (run 32 s (ahead text close.at))) (f.state k);
@@ -454,7 +454,7 @@ module _ {role : ℕ} {text : List ℕ} {ok : Bool} {at : ℕ} {x : List ℕ} {c
                   (sym f.parts)
                   ∙ fields_of_lem role f.clause (draft x count))
                   ds.more put one;
-              onward = (clause-onward final).0;
+              onward = (clause_onward final).0;
               within = closed.within final;
               more = ds.more;
               taken = omega arith;

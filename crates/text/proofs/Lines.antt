@@ -98,34 +98,34 @@ module _ (text : List ℕ) (at : ℕ) (x : List ℕ) (count : ℕ) (u : List ℕ
   role : ℕ
   role = word.value
 
-  to-clause : word.ok ≡ true → (b : Before)
+  to_clause : word.ok ≡ true → (b : Before)
       → answer (run 32 (a_line_after b) (ahead text at)) ≡ answer (run 32 (a_clause (rest role b)) (ahead text word.at))
   unfolding role
-  to-clause good b =
+  to_clause good b =
       ap (λ (ts : List Token). answer (run 32 (a_line_after b) ts)) (word_read.next good) ∙ ap answer (role_read role b (ahead text word.at) known)
 
   to_end : word.ok ≡ true → (done : said.ok ≡ true) (b : Before)
       → answer (run 32 (a_line_after b) (ahead text at))
       ≡ answer (run 32 (sign line_end (has_line b (role_line role (read.took done).tree))) (ahead text said.at))
   unfolding role rest
-  to_end good done b = to-clause good b ∙ (read.took done).goes (rest role b)
+  to_end good done b = to_clause good b ∙ (read.took done).goes (rest role b)
 
-  line-fails : end.ok ≡ false → (b : Before) → answer (run 32 (a_line_after b) (ahead text at)) ≡ none
+  line_fails : end.ok ≡ false → (b : Before) → answer (run 32 (a_line_after b) (ahead text at)) ≡ none
   unfolding role
-  line-fails final b =
+  line_fails final b =
       elim (test word.ok) [
         | inr bad ↦ word_read.fails refl bad 32 b
         | inl good ↦ elim (test said.ok) [
-          | inr bad ↦ to-clause good b ∙ read.fails good bad (rest role b)
+          | inr bad ↦ to_clause good b ∙ read.fails good bad (rest role b)
           | inl done ↦ to_end good done b ∙ ended.fails done final 32 (has_line b (role_line role (read.took done).tree))
         ]
       ]
 
-  line-took : end.ok ≡ true
+  line_took : end.ok ≡ true
       → LineTook a_line_after has_line put_line text at x count u many y v
       (record { ok = end.ok; at = end.at; count = said.count; many = said.many })
   unfolding role
-  line-took final =
+  line_took final =
       let done = ended.well final in
       let good = read.well done in
       let c = read.took done in
@@ -150,7 +150,7 @@ module _ (text : List ℕ) (at : ℕ) (x : List ℕ) (count : ℕ) (u : List ℕ
 
   pub line_read : LineRead a_line_after has_line put_line text true at x count u many y v
       (record { ok = end.ok; at = end.at; count = said.count; many = said.many })
-  line_read = record { well = λ _. refl; took = line-took; fails = λ _. line-fails }
+  line_read = record { well = λ _. refl; took = line_took; fails = λ _. line_fails }
 
 -- ---- lines one after another
 -- those read from `at` up to `here`, into areas that were x and u and are y and v
@@ -172,10 +172,10 @@ put_more (k ∷ ls) l z = put_more ls l (put_line k z)
 
 module _ (text : List ℕ) (at : ℕ) (x u : List ℕ) (here : ℕ) (y : List ℕ) (count : ℕ) (v : List ℕ) (many : ℕ)
     (far : LinesSoFar text at x u here y count v many) where
-  pub line-more : (y' v' : List ℕ) (said : GotClause) → LineRead a_line_after has_line put_line text true here y count v many y' v' said
+  pub line_more : (y' v' : List ℕ) (said : GotClause) → LineRead a_line_after has_line put_line text true here y count v many y' v' said
       → length y' ≡ length y → length v' ≡ length v → said.ok ≡ true
       → LinesSoFar text at x u said.at y' said.count v' said.many
-  line-more y' v' said read same_nodes same-clauses good =
+  line_more y' v' said read same_nodes same-clauses good =
       let l = read.took good in
       let was = far.ready in
       let h₁ = l.onward in
@@ -213,10 +213,10 @@ module _ (text : List ℕ) (at : ℕ) (x u : List ℕ) (here : ℕ) (y : List �
         fails = λ _ bad. absurd (true≢false bad);
       }
 
-  pub lines-fail : (ok : Bool) (y' v' w t : List ℕ) (said : GotClause) (r : GotLines)
+  pub lines_fail : (ok : Bool) (y' v' w t : List ℕ) (said : GotClause) (r : GotLines)
       → LineRead a_line_after has_line put_line text true here y count v many y' v' said → said.ok ≡ false → r.ok ≡ false
       → LinesRead text ok at x u w t r
-  lines-fail ok y' v' w t said r read bad unread =
+  lines_fail ok y' v' w t said r read bad unread =
       record {
         well = λ good. absurd (true≢false (sym good ∙ unread));
         took = λ good. absurd (true≢false (sym good ∙ unread));
@@ -250,42 +250,42 @@ module _ (text x u y v : List ℕ) (s m end : Leaf) (said : GotLines)
     (m-read : Leafs number a_number text s.ok s.at m)
     (ended : Leafs (sign_of line_end) (sign line_end) text m.ok m.at end)
     (read : LinesRead text end.ok end.at x u y v said) where
-  to-second : s.ok ≡ true → parse 32 (tokens text) ≡ answer (run 32 (a_number (λ m. sign line_end (at_line s.value m []))) (ahead text s.at))
+  to_second : s.ok ≡ true → parse 32 (tokens text) ≡ answer (run 32 (a_number (λ m. sign line_end (at_line s.value m []))) (ahead text s.at))
   unfolding parse start
-  to-second good =
+  to_second good =
       ap (λ (ts : List Token). answer (run 32 start ts)) (s_read.next good)
       ∙ ap answer (number_run 32 s.value (λ s. a_number (λ m. sign line_end (at_line s m []))) (ahead text s.at))
 
-  to-line-end : s.ok ≡ true → m.ok ≡ true → parse 32 (tokens text) ≡ answer
+  to_line_end : s.ok ≡ true → m.ok ≡ true → parse 32 (tokens text) ≡ answer
       (run 32 (sign line_end (at_line s.value m.value [])) (ahead text m.at))
-  to-line-end good also =
-      to-second good
+  to_line_end good also =
+      to_second good
       ∙ ap (λ (ts : List Token). answer (run 32 (a_number (λ m. sign line_end (at_line s.value m []))) ts)) (m-read.next also)
       ∙ ap answer (number_run 32 m.value (λ m. sign line_end (at_line s.value m [])) (ahead text m.at))
 
-  to-lines : s.ok ≡ true → m.ok ≡ true → end.ok ≡ true
+  to_lines : s.ok ≡ true → m.ok ≡ true → end.ok ≡ true
       → parse 32 (tokens text) ≡ answer (run 32 (at_line s.value m.value []) (ahead text end.at))
-  to-lines good also done =
-      to-line-end good also
+  to_lines good also done =
+      to_line_end good also
       ∙ ap (λ (ts : List Token). answer (run 32 (sign line_end (at_line s.value m.value [])) ts)) (ended.next done)
       ∙ ap answer (sign_run line_end 32 (at_line s.value m.value []) (ahead text end.at) (λ e. omega arith) (λ e. omega arith))
 
-  sheet-fails : said.ok ≡ false → parse 32 (tokens text) ≡ none
+  sheet_fails : said.ok ≡ false → parse 32 (tokens text) ≡ none
   unfolding parse start
-  sheet-fails final =
+  sheet_fails final =
       elim (test s.ok) [
         | inr bad ↦ s_read.fails refl bad 32 (λ s. a_number (λ m. sign line_end (at_line s m [])))
         | inl good ↦ elim (test m.ok) [
-          | inr bad ↦ to-second good ∙ m-read.fails good bad 32 (λ m. sign line_end (at_line s.value m []))
+          | inr bad ↦ to_second good ∙ m-read.fails good bad 32 (λ m. sign line_end (at_line s.value m []))
           | inl also ↦ elim (test end.ok) [
-            | inr bad ↦ to-line-end good also ∙ ended.fails also bad 32 (at_line s.value m.value [])
-            | inl done ↦ to-lines good also done ∙ read.fails done final s.value m.value
+            | inr bad ↦ to_line_end good also ∙ ended.fails also bad 32 (at_line s.value m.value [])
+            | inl done ↦ to_lines good also done ∙ read.fails done final s.value m.value
           ]
         ]
       ]
 
-  pub sheet-read : SheetRead text x u y v (record { ok = said.ok; signals = s.value; names = m.value; count = said.count; many = said.many })
-  sheet-read =
+  pub sheet_read : SheetRead text x u y v (record { ok = said.ok; signals = s.value; names = m.value; count = said.count; many = said.many })
+  sheet_read =
       record {
         took = λ final.
             let done = read.well final in
@@ -294,10 +294,10 @@ module _ (text x u y v : List ℕ) (s m end : Leaf) (said : GotLines)
             let ls = read.took final in
             record {
               tree = record { signals = s.value; names = m.value; lines = ls.lines };
-              said = to-lines good also done ∙ ls.goes s.value m.value;
+              said = to_lines good also done ∙ ls.goes s.value m.value;
               drawn = ls.drawn;
               signals_said = refl;
               names_said = refl;
             };
-        fails = sheet-fails;
+        fails = sheet_fails;
       }

@@ -19,7 +19,7 @@ use Rattle.grammar.specs.Small.{small_names}
 use Rattle.grammar.specs.Reader.{State, failed, sign, a_name, about_part, run, answer}
 use Rattle.grammar.proofs.Said.{computing}
 use Rattle.grammar.proofs.Room.{failed_none}
-use Rattle.typed.specs.Draft.{mask_of, put_part, putOrF, part_mask}
+use Rattle.typed.specs.Draft.{mask_of, put_part, put_or_f, part_mask}
 use Rattle.typed.proofs.Clauses.{mask_bit, mask_next}
 use Rattle.propositions.specs.declared.Got.{Got}
 use Rattle.propositions.specs.declared.leaf.Leaf.{Leaf}
@@ -102,8 +102,8 @@ module _ (text : List ℕ) (at mask here : ℕ) (far : SoFar text at mask here) 
       ∙ failed_none room (ahead text r.at)
 
   -- no other name comes
-  pub names-read : r.ok ≡ false → (ok : Bool) → NamesRead text ok at (record { ok = ok; at = here; value = mask })
-  names-read bad ok =
+  pub names_read : r.ok ≡ false → (ok : Bool) → NamesRead text ok at (record { ok = ok; at = here; value = mask })
+  names_read bad ok =
       record {
         well = λ good. good;
         took = λ _.
@@ -135,7 +135,7 @@ part_unread room text ok at x count y r bad unread =
 
 -- a formula, a colon and names
 module _ (room : ℕ) (text : List ℕ) (at : ℕ) (x : List ℕ) (count : ℕ) (y : List ℕ) (got : Got) (colon listed : Leaf)
-    (read : Reads before_f after putOrF room text at x count y got)
+    (read : Reads before_f after put_or_f room text at x count y got)
     (coloned : Leafs (sign_of colon_sign) (sign colon_sign) text got.ok got.at colon)
     (names : NamesRead text colon.ok colon.at listed) where
   result : GotPart
@@ -146,25 +146,25 @@ module _ (room : ℕ) (text : List ℕ) (at : ℕ) (x : List ℕ) (count : ℕ) 
   rest n s f = some_names n (λ us. s (record { formula = f; names = us })) []
 
   -- a colon and the names come after the formula
-  colon-next : ℕ → (TypedPart → State) → Then OrF
-  colon-next n s = record { wanted = colon_sign; closing = inr (omega arith); onto = rest n s }
+  colon_next : ℕ → (TypedPart → State) → Then OrF
+  colon_next n s = record { wanted = colon_sign; closing = inr (omega arith); onto = rest n s }
 
-  to-colon : (good : got.ok ≡ true) (n : ℕ) (s : TypedPart → State)
+  to_colon : (good : got.ok ≡ true) (n : ℕ) (s : TypedPart → State)
       → answer (run room (a_part n s) (ahead text at))
       ≡ answer (run room (sign colon_sign (rest n s (read.took good).tree)) (ahead text got.at))
-  unfolding about_part rest colon-next
-  to-colon good n s = (read.took good).goes (colon-next n s)
+  unfolding about_part rest colon_next
+  to_colon good n s = (read.took good).goes (colon_next n s)
 
-  to-names : (good : got.ok ≡ true) → colon.ok ≡ true → (n : ℕ) (s : TypedPart → State)
+  to_names : (good : got.ok ≡ true) → colon.ok ≡ true → (n : ℕ) (s : TypedPart → State)
       → answer (run room (a_part n s) (ahead text at)) ≡ answer (run room (rest n s (read.took good).tree) (ahead text colon.at))
-  to-names good also n s =
-      to-colon good n s
+  to_names good also n s =
+      to_colon good n s
       ∙ ap (λ (ts : List Token). answer (run room (sign colon_sign (rest n s (read.took good).tree)) ts)) (coloned.next also)
       ∙ ap answer (sign_run colon_sign room (rest n s (read.took good).tree) (ahead text colon.at) (λ e. omega arith) (λ e. omega arith))
 
-  part-took : listed.ok ≡ true → PartTook room text at x count y result
+  part_took : listed.ok ≡ true → PartTook room text at x count y result
   unfolding result rest put_part part_mask
-  part-took last =
+  part_took last =
       let also = names.well last in
       let good = coloned.well also in
       let f = read.took good in
@@ -175,7 +175,7 @@ module _ (room : ℕ) (text : List ℕ) (at : ℕ) (x : List ℕ) (count : ℕ) 
       let h₄ = f.taken in
       record {
         tree = record { formula = f.tree; names = us.names };
-        goes = λ n s. to-names good also n s ∙ us.goes room n (λ us. s (record { formula = f.tree; names = us }));
+        goes = λ n s. to_names good also n s ∙ us.goes room n (λ us. s (record { formula = f.tree; names = us }));
         drafted = f.drafted;
         mask = us.mask;
         onward = omega arith;
@@ -184,19 +184,19 @@ module _ (room : ℕ) (text : List ℕ) (at : ℕ) (x : List ℕ) (count : ℕ) 
         taken = omega arith;
       }
 
-  part-fails : listed.ok ≡ false → (n : ℕ) (s : TypedPart → State) → answer (run room (a_part n s) (ahead text at)) ≡ none
-  unfolding about_part rest colon-next
-  part-fails last n s =
+  part_fails : listed.ok ≡ false → (n : ℕ) (s : TypedPart → State) → answer (run room (a_part n s) (ahead text at)) ≡ none
+  unfolding about_part rest colon_next
+  part_fails last n s =
       elim (test got.ok) [
-        | inr bad ↦ read.fails bad (colon-next n s)
+        | inr bad ↦ read.fails bad (colon_next n s)
         | inl good ↦ elim (test colon.ok) [
-          | inr bad ↦ to-colon good n s ∙ coloned.fails good bad room (rest n s (read.took good).tree)
+          | inr bad ↦ to_colon good n s ∙ coloned.fails good bad room (rest n s (read.took good).tree)
           | inl also ↦
-              to-names good also n s ∙ names.fails also last room n (λ us. s (record { formula = (read.took good).tree; names = us }))
+              to_names good also n s ∙ names.fails also last room n (λ us. s (record { formula = (read.took good).tree; names = us }))
         ]
       ]
 
   pub part_read : (ok : Bool) → ok ≡ true
       → PartRead room text ok at x count y (record { ok = listed.ok; at = listed.at; count = got.count; mask = listed.value })
   unfolding result
-  part_read ok all = record { well = λ _. all; took = part-took; fails = λ _. part-fails }
+  part_read ok all = record { well = λ _. all; took = part_took; fails = λ _. part_fails }

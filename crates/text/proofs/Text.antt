@@ -32,7 +32,7 @@ use Rattle.grammar.proofs.Bounds.{small}
 use Rattle.typed.specs.Meaning.{clauses_meant}
 use Rattle.typed.specs.Draft.{Draft, draft, empty, sketch_of, too_many, sheet_bytes, front_of, Assembled, typed_bytes}
 use Rattle.typed.proofs.Writing.{front_taken}
-use Rattle.typed.proofs.Sheet.{typed_clauses, typed-requirement, typed-verdict}
+use Rattle.typed.proofs.Sheet.{typed_clauses, typed_requirement, typed_verdict}
 use Rattle.text.specs.declared.sheet.GotSheet.{GotSheet}
 use Rattle.text.specs.Parts.{Drawn, SheetRead, draft_refusal}
 use Rattle.text.specs.Text.{said_refusal, RefusedBy, WrittenAs, ReadText}
@@ -48,29 +48,29 @@ number_read s m nodes clauses x y size number answer put read e =
 
 -- ---- the order of the refusals of what was read
 module _ (s m : ℕ) (nodes clauses : Draft) (lent : ℕ) where
-  pub many-nodes : most_nodes < nodes.count → 20 ≡ draft_refusal s m nodes clauses lent
+  pub many_nodes : most_nodes < nodes.count → 20 ≡ draft_refusal s m nodes clauses lent
   unfolding draft_refusal
-  many-nodes h = rw (lt-ltb most_nodes nodes.count h)
+  many_nodes h = rw (lt-ltb most_nodes nodes.count h)
 
-  pub many-clauses : nodes.count ≤ most_nodes → most_clauses < clauses.count → 20 ≡ draft_refusal s m nodes clauses lent
+  pub many_clauses : nodes.count ≤ most_nodes → most_clauses < clauses.count → 20 ≡ draft_refusal s m nodes clauses lent
   unfolding draft_refusal
-  many-clauses h₁ h₂ = rw (le-ltb most_nodes nodes.count h₁, lt-ltb most_clauses clauses.count h₂)
+  many_clauses h₁ h₂ = rw (le-ltb most_nodes nodes.count h₁, lt-ltb most_clauses clauses.count h₂)
 
   module _ (h₁ : nodes.count ≤ most_nodes) (h₂ : clauses.count ≤ most_clauses) (number : ℕ)
       (e : number ≡ sheet_refusal (sheet_bytes s m nodes clauses)) where
-    pub by-sheet : (number ≡ 0 → ⊥) → number ≡ draft_refusal s m nodes clauses lent
+    pub by_sheet : (number ≡ 0 → ⊥) → number ≡ draft_refusal s m nodes clauses lent
     unfolding draft_refusal
-    by-sheet h =
+    by_sheet h =
         rw (le-ltb most_nodes nodes.count h₁, le-ltb most_clauses clauses.count h₂, ← e, ne_eqb number 0 h)
 
-    pub by-output : number ≡ 0 → lent < least_output → 14 ≡ draft_refusal s m nodes clauses lent
+    pub by_output : number ≡ 0 → lent < least_output → 14 ≡ draft_refusal s m nodes clauses lent
     unfolding draft_refusal
-    by-output h l =
+    by_output h l =
         rw (le-ltb most_nodes nodes.count h₁, le-ltb most_clauses clauses.count h₂, ← e, eq-eqb number 0 h, lt-ltb lent least_output l)
 
-    pub by-none : number ≡ 0 → least_output ≤ lent → 0 ≡ draft_refusal s m nodes clauses lent
+    pub by_none : number ≡ 0 → least_output ≤ lent → 0 ≡ draft_refusal s m nodes clauses lent
     unfolding draft_refusal
-    by-none h l =
+    by_none h l =
         rw (le-ltb most_nodes nodes.count h₁, le-ltb most_clauses clauses.count h₂, ← e, eq-eqb number 0 h, le-ltb lent least_output l)
 
 -- what 0 leaves
@@ -110,27 +110,27 @@ module _ (t : TypedSheet) (nodes : List ℕ) (n : ℕ) (clauses : List ℕ) (c :
   unfolding typed_bytes
   bytes_same few = ap₂ (sheet_bytes t.signals t.names) drawn.nodes_drawn (drawn.clauses_drawn few)
 
-  many-same : (ltb most_nodes n || ltb most_clauses c) ≡ too_many t
+  many_same : (ltb most_nodes n || ltb most_clauses c) ≡ too_many t
   unfolding too_many
-  many-same = ap₂ (λ (n c : ℕ). ltb most_nodes n || ltb most_clauses c) (ap (λ (d : Draft). d.count) drawn.nodes_drawn) drawn.counted
+  many_same = ap₂ (λ (n c : ℕ). ltb most_nodes n || ltb most_clauses c) (ap (λ (d : Draft). d.count) drawn.nodes_drawn) drawn.counted
 
-  refusal-same : draft_refusal t.signals t.names (draft nodes n) (draft clauses c) lent ≡ said_refusal t lent
+  refusal_same : draft_refusal t.signals t.names (draft nodes n) (draft clauses c) lent ≡ said_refusal t lent
   unfolding draft_refusal said_refusal
-  refusal-same =
+  refusal_same =
       elim (test (ltb most_nodes n || ltb most_clauses c)) [
-        | inl e ↦ rw (← many-same, e)
+        | inl e ↦ rw (← many_same, e)
         | inr e ↦
             let few = ltb-false most_nodes n (or_false_left (ltb most_nodes n) (ltb most_clauses c) e) in
             ap₂
             (λ (many : Bool) (bytes : List ℕ).
             cond many 20 (cond (eqb (sheet_refusal bytes) 0) (cond (ltb lent least_output) 14 0) (sheet_refusal bytes)))
-            many-same (bytes_same few)
+            many_same (bytes_same few)
       ]
 
 -- ---- the cases of an answer
 module _ (text x : List ℕ) where
-  pub read-deep : (deep : Bool) → deep ≡ too_deep text → deep ≡ true → ReadText text x x (Refused 18)
-  read-deep deep e h =
+  pub read_deep : (deep : Bool) → deep ≡ too_deep text → deep ≡ true → ReadText text x x (Refused 18)
+  read_deep deep e h =
       let yes-deep : too_deep text ≡ true = sym e ∙ h in
       record {
         deep = λ _. record { number_given = refl; unchanged = refl };
@@ -143,8 +143,8 @@ module _ (text x : List ℕ) where
     shallow : too_deep text ≡ false
     shallow = sym e ∙ h
 
-    outside-grammar : ((t : TypedSheet) → Says text t → ⊥) → ReadText text x x (Refused 19)
-    outside-grammar nothing =
+    outside_grammar : ((t : TypedSheet) → Says text t → ⊥) → ReadText text x x (Refused 19)
+    outside_grammar nothing =
         record {
           deep = λ d. absurd (true≢false (sym d ∙ shallow));
           outside = λ _ _. record { number_given = refl; unchanged = refl };
@@ -152,51 +152,51 @@ module _ (text x : List ℕ) where
           written = λ _ t says. absurd (nothing t says);
         }
 
-    pub unended-outside : (ends : Bool) → ends ≡ ends_line text → ends ≡ false → ReadText text x x (Refused 19)
-    unended-outside ends e₂ h₂ = outside-grammar (λ t says. true≢false (sym says.ended ∙ sym e₂ ∙ h₂))
+    pub unended_outside : (ends : Bool) → ends ≡ ends_line text → ends ≡ false → ReadText text x x (Refused 19)
+    unended_outside ends e₂ h₂ = outside_grammar (λ t says. true≢false (sym says.ended ∙ sym e₂ ∙ h₂))
 
     -- the one tree of the text
     module _ (ended : ends_line text ≡ true) (t : TypedSheet) (said : parse 32 (tokens text) ≡ some t) where
-      said-tree : Says text t
-      said-tree = read_says 32 text t said ended
+      said_tree : Says text t
+      said_tree = read_says 32 text t said ended
 
-      same-tree : (t' : TypedSheet) → Says text t' → t ≡ t'
-      same-tree t' says = unique text t t' said-tree says
+      same_tree : (t' : TypedSheet) → Says text t' → t ≡ t'
+      same_tree t' says = unique text t t' said_tree says
 
-      read-refused : (number : ℕ) → number ≡ said_refusal t (length x) → (number ≡ 0 → ⊥) → ReadText text x x (Refused number)
-      read-refused number is Some-number =
+      read_refused : (number : ℕ) → number ≡ said_refusal t (length x) → (number ≡ 0 → ⊥) → ReadText text x x (Refused number)
+      read_refused number is Some-number =
           record {
             deep = λ d. absurd (true≢false (sym d ∙ shallow));
-            outside = λ _ nothing. absurd (nothing t said-tree);
+            outside = λ _ nothing. absurd (nothing t said_tree);
             refused = λ _ t' says _.
                 record {
-                  number_given = ap Refused (is ∙ ap (λ (t : TypedSheet). said_refusal t (length x)) (same-tree t' says));
+                  number_given = ap Refused (is ∙ ap (λ (t : TypedSheet). said_refusal t (length x)) (same_tree t' says));
                   unchanged = refl;
                 };
             written = λ _ t' says free.
-                absurd (Some-number (is ∙ ap (λ (t : TypedSheet). said_refusal t (length x)) (same-tree t' says) ∙ free));
+                absurd (Some-number (is ∙ ap (λ (t : TypedSheet). said_refusal t (length x)) (same_tree t' says) ∙ free));
           }
 
-      read-written : (y : List ℕ) (long : ℕ) → said_refusal t (length x) ≡ 0 → y ≡ front_of (typed_bytes t) x → long ≡ length (typed_bytes t)
+      read_written : (y : List ℕ) (long : ℕ) → said_refusal t (length x) ≡ 0 → y ≡ front_of (typed_bytes t) x → long ≡ length (typed_bytes t)
           → ReadText text x y (Written long)
-      read-written y long free front is =
+      read_written y long free front is =
           record {
             deep = λ d. absurd (true≢false (sym d ∙ shallow));
-            outside = λ _ nothing. absurd (nothing t said-tree);
+            outside = λ _ nothing. absurd (nothing t said_tree);
             refused = λ _ t' says Some-number.
-                absurd (Some-number (sym (ap (λ (t : TypedSheet). said_refusal t (length x)) (same-tree t' says)) ∙ free));
+                absurd (Some-number (sym (ap (λ (t : TypedSheet). said_refusal t (length x)) (same_tree t' says)) ∙ free));
             written = λ _ t' says _.
                 record {
-                  length_given = ap Written (is ∙ ap (λ (t : TypedSheet). length (typed_bytes t)) (same-tree t' says));
-                  in_front = front ∙ ap (λ (t : TypedSheet). front_of (typed_bytes t) x) (same-tree t' says);
+                  length_given = ap Written (is ∙ ap (λ (t : TypedSheet). length (typed_bytes t)) (same_tree t' says));
+                  in_front = front ∙ ap (λ (t : TypedSheet). front_of (typed_bytes t) x) (same_tree t' says);
                 };
           }
 
     -- what the code read into the areas, which were empty
     module _ (a b nodes clauses : List ℕ) (r : GotSheet) (a-empty : a ≡ replicate 384 0) (b-empty : b ≡ replicate 88 0)
         (read : SheetRead text a b nodes clauses r) where
-      pub unread-outside : r.ok ≡ false → ReadText text x x (Refused 19)
-      unread-outside bad = outside-grammar (outside_unread text shallow (read.fails bad))
+      pub unread_outside : r.ok ≡ false → ReadText text x x (Refused 19)
+      unread_outside bad = outside_grammar (outside_unread text shallow (read.fails bad))
 
       module _ (ends : Bool) (e₂ : ends ≡ ends_line text) (h₂ : ends ≡ true) (good : r.ok ≡ true) where
         ended : ends_line text ≡ true
@@ -214,15 +214,15 @@ module _ (text x : List ℕ) where
         number_same =
             ap₂ (λ (s m : ℕ). draft_refusal s m (draft nodes r.count) (draft clauses r.many) (length x))
             (read.took good).signals_said (read.took good).names_said
-            ∙ refusal-same t nodes r.count clauses r.many drawn (length x)
+            ∙ refusal_same t nodes r.count clauses r.many drawn (length x)
 
         module _ (number : ℕ) (is : number ≡ draft_refusal r.signals r.names (draft nodes r.count) (draft clauses r.many) (length x)) where
-          pub read-by-number : (number ≡ 0 → ⊥) → ReadText text x x (Refused number)
+          pub read_by_number : (number ≡ 0 → ⊥) → ReadText text x x (Refused number)
           unfolding t
-          read-by-number Some-number = read-refused ended t (read.took good).said number (is ∙ number_same) Some-number
+          read_by_number Some-number = read_refused ended t (read.took good).said number (is ∙ number_same) Some-number
 
-          pub read-free : number ≡ 0 → Free r.count r.many (length x)
-          read-free zero_number =
+          pub read_free : number ≡ 0 → Free r.count r.many (length x)
+          read_free zero_number =
               nothing_refused r.signals r.names nodes r.count clauses r.many (length x) (sym is ∙ zero_number)
 
           pub read_whole : number ≡ 0 → (y : List ℕ) (long : ℕ)
@@ -230,13 +230,13 @@ module _ (text x : List ℕ) where
               → ReadText text x y (Written long)
           unfolding t
           read_whole zero_number y long put =
-              let free = read-free zero_number in
+              let free = read_free zero_number in
               let same =
               ap₂ (λ (s m : ℕ). sheet_bytes s m (draft nodes r.count) (draft clauses r.many))
               (read.took good).signals_said (read.took good).names_said
               ∙ bytes_same t nodes r.count clauses r.many drawn (length x) free.few_nodes
               in
-              read-written ended t (read.took good).said y long (sym number_same ∙ sym is ∙ zero_number)
+              read_written ended t (read.took good).said y long (sym number_same ∙ sym is ∙ zero_number)
               (put.bytes ∙ ap (λ (l : List ℕ). front_of l x) same) (put.size ∙ ap length same)
 
 -- ---- one case applies to each text
@@ -408,8 +408,8 @@ meant_bytes text t lent says p =
       bytes = refl;
       accepted = p.right;
       clauses = typed_clauses t p.few numbers;
-      requires = λ unused σ. typed-requirement t p.few numbers unused σ;
-      verdicts = λ unused σ. typed-verdict t p.few numbers unused σ;
+      requires = λ unused σ. typed_requirement t p.few numbers unused σ;
+      verdicts = λ unused σ. typed_verdict t p.few numbers unused σ;
     }
 
 pub meaning : (text x y : List ℕ) (size : ℕ) → ReadText text x y (Written size) → Meant text (take size y)

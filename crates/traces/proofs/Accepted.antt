@@ -9,7 +9,7 @@ use lib.Dec.{leb, eqb}
 use lib.ListN.{length, get_or}
 use Rattle.semantics.proofs.Tests.{and_left, and_right}
 use Rattle.stored.specs.Tree.{pick}
-use Rattle.stored.proofs.Rules.{every_at, lowest_kept, length-inOrder, getD-inOrder}
+use Rattle.stored.proofs.Rules.{every_at, lowest_kept, length_in_order, get_or_in_order}
 use Rattle.traces.specs.declared.TraceAnswer.TheVariants.{Cycles, Refused}
 use Rattle.traces.specs.Trace.{cycle_count, cycle_at, cycle_right, cycles_right, trace_rules, trace_refusal, trace_answer, trace_number, cycles_of}
 
@@ -66,8 +66,8 @@ trace_number_lem s t = go (eqb (trace_refusal s t) 0) refl
 
 pub cycles_count : (t : List ℕ) → length (cycles_of t) ≡ cycle_count t
 unfolding cycles_of
-cycles_count t = length-inOrder (cycle_count t) (cycle_at t)
+cycles_count t = length_in_order (cycle_count t) (cycle_at t)
 
 pub cycles_at : (t : List ℕ) (i : ℕ) → i < cycle_count t → get_or (cycles_of t) i 0 ≡ cycle_at t i
 unfolding cycles_of
-cycles_at t i h = getD-inOrder (cycle_count t) (cycle_at t) i 0 h
+cycles_at t i h = get_or_in_order (cycle_count t) (cycle_at t) i 0 h

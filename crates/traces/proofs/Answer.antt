@@ -37,6 +37,6 @@ module _ (s : ℕ) (t : List ℕ) where
   unfolding trace_answer trace_refusal trace_rules lowest pick
   trace_accepted h e = rw (h.rule10, h.rule11, h.rule12, e)
 
-  pub trace-framed-long : trace_framed t ≡ true → 4 ≤ length t
+  pub trace_framed_long : trace_framed t ≡ true → 4 ≤ length t
   unfolding trace_framed
-  trace-framed-long e = framed_from_lem 4 t e
+  trace_framed_long e = framed_from_lem 4 t e

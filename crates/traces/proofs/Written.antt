@@ -55,55 +55,55 @@ cycles_more x ws i h =
 
 -- ---- the stored trace
 module _ (s : ℕ) (ws : List ℕ) where
-  pub trace-length : length (trace_bytes s ws) ≡ trace_end (length ws)
+  pub trace_length : length (trace_bytes s ws) ≡ trace_end (length ws)
   unfolding trace_bytes
-  trace-length = let long = cycle_bytes_length ws in omega arith
+  trace_length = let long = cycle_bytes_length ws in omega arith
 
-  trace-count : cycle_count (trace_bytes s ws) ≡ length ws
+  trace_count : cycle_count (trace_bytes s ws) ≡ length ws
   unfolding cycle_count
-  trace-count = let long = trace-length in omega arith
+  trace_count = let long = trace_length in omega arith
 
-  trace-cycle : (i : ℕ) → i < length ws → cycle_at (trace_bytes s ws) i ≡ get_or ws i 0
+  trace_cycle : (i : ℕ) → i < length ws → cycle_at (trace_bytes s ws) i ≡ get_or ws i 0
   unfolding cycle_at trace_bytes word
-  trace-cycle i h =
+  trace_cycle i h =
       let here : 2 * i + 4 ≡ suc (suc (suc (suc (2 * i)))) = omega arith in
       let next : suc (suc (suc (suc (2 * i)))) + 1 ≡ suc (suc (suc (suc (2 * i + 1)))) = omega arith in
       rw here (rw next (cycle_bytes_at ws i h))
 
   pub trace_cycles : cycles_of (trace_bytes s ws) ≡ ws
   trace_cycles =
-      let many = cycles_count (trace_bytes s ws) ∙ trace-count in
+      let many = cycles_count (trace_bytes s ws) ∙ trace_count in
       ext_get_or 0 (cycles_of (trace_bytes s ws)) ws many
-      (λ i h. cycles_at (trace_bytes s ws) i (omega (arith, trace-count)) ∙ trace-cycle i (omega arith))
+      (λ i h. cycles_at (trace_bytes s ws) i (omega (arith, trace_count)) ∙ trace_cycle i (omega arith))
 
-  trace-framed : trace_framed (trace_bytes s ws) ≡ true
+  trace_framed_lem : trace_framed (trace_bytes s ws) ≡ true
   unfolding trace_framed framed_from trace_bytes word
-  trace-framed =
+  trace_framed_lem =
       let t = trace_bytes s ws in
-      let long = trace-length in
+      let long = trace_length in
       and_intro (leb 4 (length t)) _ (le-leb 4 (length t) (omega arith))
       (eq-eqb (word t 0) (following (length t)) (halves (following (trace_end (length ws))) ∙ ap following (sym long)))
 
   module _ (some : 1 ≤ length ws) (few : length ws ≤ 64) (small : (i : ℕ) → i < length ws → get_or ws i 0 < 2 ^ s) where
-    trace-right : cycles_right s (trace_bytes s ws) ≡ true
+    trace_right : cycles_right s (trace_bytes s ws) ≡ true
     unfolding cycles_right cycle_right
-    trace-right =
+    trace_right =
         let t = trace_bytes s ws in
-        let count = trace-count in
-        and_intro (eqb (length t) (4 + 2 * cycle_count t)) _ (eq-eqb (length t) (4 + 2 * cycle_count t) (omega (arith, trace-length)))
+        let count = trace_count in
+        and_intro (eqb (length t) (4 + 2 * cycle_count t)) _ (eq-eqb (length t) (4 + 2 * cycle_count t) (omega (arith, trace_length)))
         (and_intro (leb 1 (cycle_count t) && leb (cycle_count t) 64) _
         (and_intro (leb 1 (cycle_count t)) _ (le-leb 1 (cycle_count t) (omega arith)) (le-leb (cycle_count t) 64 (omega arith)))
         (every_all (cycle_count t) (cycle_right s t)
-        (λ i h. let at = trace-cycle i (omega arith) in lt-ltb (cycle_at t i) (2 ^ s) (omega (arith, small i (omega arith))))))
+        (λ i h. let at = trace_cycle i (omega arith) in lt-ltb (cycle_at t i) (2 ^ s) (omega (arith, small i (omega arith))))))
 
     -- none of the numbers 10 to 13 applies to it
     pub trace_accepted : trace_refusal s (trace_bytes s ws) ≡ 0
     unfolding trace_refusal trace_rules lowest trace_versioned same_signals trace_bytes
-    trace_accepted = rw (trace-framed, eq-eqb s s refl, trace-right)
+    trace_accepted = rw (trace_framed_lem, eq-eqb s s refl, trace_right)
 
 -- lent bytes into which it was put
 pub trace_front : (x y : List ℕ) (s : ℕ) (ws : List ℕ) (end : ℕ) → trace_end (length ws) ≤ length x → y ≡ sets x 0 (trace_bytes s ws) → end ≡ trace_end (length ws)
     → take end y ≡ trace_bytes s ws
 trace_front x y s ws end fits e f =
-    let long = trace-length s ws in
+    let long = trace_length s ws in
     ap₂ take (f ∙ sym long) e ∙ sets_front x (trace_bytes s ws) (omega arith)

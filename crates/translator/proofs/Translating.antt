@@ -28,7 +28,7 @@ use Rattle.stored.specs.Layout.{emitted_kind, nodes_end, clauses_end, following,
 use Rattle.stored.specs.Written.{node_in, put_header, header_bytes}
 use Rattle.stored.proofs.Rules.{every_all}
 use Rattle.stored.proofs.Tree.{formula_agree}
-use Rattle.stored.proofs.Written.{header-length, header-back, header-byte, header_read, header-rest, nodes_in, taken_byte, taken_header, taken_node}
+use Rattle.stored.proofs.Written.{header_length, header_back, header_byte, header_read, header_rest, nodes_in, taken_byte, taken_header, taken_node}
 use Rattle.stored.proofs.Emitted.{emitted_made}
 use Rattle.stored.proofs.Accepted.{Opened, length_nodes, length_clauses, accepted_fits, answer_accepted, answer_refused}
 use Rattle.stored.specs.declared.WriteAnswer.{WriteAnswer}
@@ -51,30 +51,30 @@ module _ (x y : List ℕ) (s m : ℕ) (big : least_output ≤ length x) (e : y �
   head : header_of y ≡ record { signals = s; names = m; nodes = 0; clauses = 0 }
   head = ap header_of e ∙ header_read x emitted_kind s m 0 0 (omega arith)
 
-  pub empty-count : count y ≡ 0
-  empty-count = ap (λ (h : Header). h.nodes) head
+  pub empty_count : count y ≡ 0
+  empty_count = ap (λ (h : Header). h.nodes) head
 
-  pub empty-signals : (header_of y).signals ≡ s
-  empty-signals = ap (λ (h : Header). h.signals) head
+  pub empty_signals : (header_of y).signals ≡ s
+  empty_signals = ap (λ (h : Header). h.signals) head
 
-  pub empty-names : (header_of y).names ≡ m
-  empty-names = ap (λ (h : Header). h.names) head
+  pub empty_names : (header_of y).names ≡ m
+  empty_names = ap (λ (h : Header). h.names) head
 
-  pub empty-length : length y ≡ length x
-  empty-length = ap length e ∙ header-length x emitted_kind s m 0 0
+  pub empty_length : length y ≡ length x
+  empty_length = ap length e ∙ header_length x emitted_kind s m 0 0
 
-  pub empty-good : 1 ≤ s → s ≤ 16 → m ≤ 3 → Good y
+  pub empty_good : 1 ≤ s → s ≤ 16 → m ≤ 3 → Good y
   unfolding header_bytes
-  empty-good some few three =
-      let none = empty-count in
-      let signals = empty-signals in
-      let names = empty-names in
-      let size = empty-length in
+  empty_good some few three =
+      let none = empty_count in
+      let signals = empty_signals in
+      let names = empty_names in
+      let size = empty_length in
       record {
         long = omega arith;
-        rest = ap (λ (l : List ℕ). word l 0) e ∙ header-rest x emitted_kind s m 0 0 (omega arith) ∙ ap (λ (n : ℕ). following (nodes_end n)) (sym none);
-        version = ap (λ (l : List ℕ). get_or l 2 0) e ∙ header-byte x emitted_kind s m 0 0 (omega arith) 2 (omega arith);
-        kind = ap (λ (l : List ℕ). get_or l 3 0) e ∙ header-byte x emitted_kind s m 0 0 (omega arith) 3 (omega arith);
+        rest = ap (λ (l : List ℕ). word l 0) e ∙ header_rest x emitted_kind s m 0 0 (omega arith) ∙ ap (λ (n : ℕ). following (nodes_end n)) (sym none);
+        version = ap (λ (l : List ℕ). get_or l 2 0) e ∙ header_byte x emitted_kind s m 0 0 (omega arith) 2 (omega arith);
+        kind = ap (λ (l : List ℕ). get_or l 3 0) e ∙ header_byte x emitted_kind s m 0 0 (omega arith) 3 (omega arith);
         some_signals = omega arith;
         few_signals = omega arith;
         few_names = omega arith;
@@ -86,9 +86,9 @@ module _ (x y : List ℕ) (s m : ℕ) (big : least_output ≤ length x) (e : y �
 
 -- ---- an accepted sheet's parts
 module _ (s : List ℕ) (o : Opened s) (y : List ℕ) (signals : (header_of y).signals ≡ (header_of s).signals) (names : (header_of y).names ≡ (header_of s).names) where
-  pub nodes-in-sheet : NodesIn y (node_part s) (header_of s).nodes
+  pub nodes_in_sheet : NodesIn y (node_part s) (header_of s).nodes
   unfolding nodes_of
-  nodes-in-sheet =
+  nodes_in_sheet =
       record {
         few = o.in_range.few_nodes;
         inside = omega (arith, length_nodes s o);
@@ -97,9 +97,9 @@ module _ (s : List ℕ) (o : Opened s) (y : List ℕ) (signals : (header_of y).s
       }
 
   -- the first n of them
-  pub clauses-in-sheet : (n : ℕ) → n ≤ (header_of s).clauses → ClausesIn y (node_part s) (header_of s).nodes (clause_part s) n
+  pub clauses_in_sheet : (n : ℕ) → n ≤ (header_of s).clauses → ClausesIn y (node_part s) (header_of s).nodes (clause_part s) n
   unfolding nodes_of stored_of
-  clauses-in-sheet n h =
+  clauses_in_sheet n h =
       record {
         few = omega (arith, o.in_range.few_clauses);
         inside = omega (arith, length_clauses s o);
@@ -116,15 +116,15 @@ module _ (y : List ℕ) (r : ℕ) (f : Formula) (good : Good y) (has : Has y r f
   fits : nodes_end (r + 1) ≤ length y
   fits = omega (arith, good.few_nodes, good.long)
 
-  pub cut-length : length (take (nodes_end (r + 1)) y) ≡ nodes_end (r + 1)
-  cut-length = simp length-take (omega (arith, fits))
+  pub cut_length : length (take (nodes_end (r + 1)) y) ≡ nodes_end (r + 1)
+  cut_length = simp length-take (omega (arith, fits))
 
-  pub cut-header : header_of (take (nodes_end (r + 1)) y) ≡ header_of y
-  cut-header = taken_header (nodes_end (r + 1)) y (omega arith)
+  pub cut_header : header_of (take (nodes_end (r + 1)) y) ≡ header_of y
+  cut_header = taken_header (nodes_end (r + 1)) y (omega arith)
 
-  cut-node : (i : ℕ) → i < count y → nodes_of (take (nodes_end (r + 1)) y) i ≡ node_in y i
-  cut-node i l =
-      nodes_in (take (nodes_end (r + 1)) y) i (rw cut-header l) ∙ taken_node (nodes_end (r + 1)) y i (omega arith)
+  cut_node : (i : ℕ) → i < count y → nodes_of (take (nodes_end (r + 1)) y) i ≡ node_in y i
+  cut_node i l =
+      nodes_in (take (nodes_end (r + 1)) y) i (rw cut_header l) ∙ taken_node (nodes_end (r + 1)) y i (omega arith)
 
   cut_word : word (take (nodes_end (r + 1)) y) 0 ≡ word y 0
   unfolding word
@@ -132,66 +132,66 @@ module _ (y : List ℕ) (r : ℕ) (f : Formula) (good : Good y) (has : Has y r f
 
   root_is : root_of (take (nodes_end (r + 1)) y) ≡ r
   unfolding root_of
-  root_is = rw cut-header (omega arith)
+  root_is = rw cut_header (omega arith)
 
-  pub cut-formula : emitted_formula (take (nodes_end (r + 1)) y) ≡ f
+  pub cut_formula : emitted_formula (take (nodes_end (r + 1)) y) ≡ f
   unfolding emitted_formula formula_in
-  cut-formula =
+  cut_formula =
       ap (formula_at (nodes_of (take (nodes_end (r + 1)) y))) root_is
-      ∙ formula_agree (nodes_of (take (nodes_end (r + 1)) y)) (node_in y) r (λ k l. cut-node k (omega arith))
+      ∙ formula_agree (nodes_of (take (nodes_end (r + 1)) y)) (node_in y) r (λ k l. cut_node k (omega arith))
       ∙ has.tree
 
-  is-cut-framed : framed (take (nodes_end (r + 1)) y) ≡ true
+  is_cut_framed : framed (take (nodes_end (r + 1)) y) ≡ true
   unfolding framed framed_from
-  is-cut-framed =
-      let size = cut-length in
+  is_cut_framed =
+      let size = cut_length in
       let rest = cut_word in
       let told = good.rest in
       let long : 9 ≤ length (take (nodes_end (r + 1)) y) = omega arith in
       let told : word (take (nodes_end (r + 1)) y) 0 ≡ length (take (nodes_end (r + 1)) y) - 2 = omega arith in
       and_intro _ _ (le-leb _ _ long) (eq-eqb _ _ told)
 
-  is-cut-counted : emitted_counted (header_of (take (nodes_end (r + 1)) y)) ≡ true
+  is_cut_counted : emitted_counted (header_of (take (nodes_end (r + 1)) y)) ≡ true
   unfolding emitted_counted
-  is-cut-counted =
-      rw cut-header
+  is_cut_counted =
+      rw cut_header
       (and_intro _ _ (and_intro _ _ (le-leb _ _ good.some_signals) (le-leb _ _ good.few_signals))
       (and_intro _ _ (le-leb _ _ good.few_names) (and_intro _ _ (le-leb 1 (count y) (omega arith)) (eq-eqb _ _ good.no_clauses))))
 
-  is-cut-sized : sized (take (nodes_end (r + 1)) y) ≡ true
+  is_cut_sized : sized (take (nodes_end (r + 1)) y) ≡ true
   unfolding sized
-  is-cut-sized =
-      rw cut-header
-      (eq-eqb (length (take (nodes_end (r + 1)) y)) (clauses_end (header_of y).nodes (header_of y).clauses) (omega (arith, cut-length, good.no_clauses)))
+  is_cut_sized =
+      rw cut_header
+      (eq-eqb (length (take (nodes_end (r + 1)) y)) (clauses_end (header_of y).nodes (header_of y).clauses) (omega (arith, cut_length, good.no_clauses)))
 
-  is-root : is_formula_node emitted_sorts (nodes_of (take (nodes_end (r + 1)) y)) (header_of (take (nodes_end (r + 1)) y)).nodes (root_of (take (nodes_end (r + 1)) y)) ≡ true
+  is_root : is_formula_node emitted_sorts (nodes_of (take (nodes_end (r + 1)) y)) (header_of (take (nodes_end (r + 1)) y)).nodes (root_of (take (nodes_end (r + 1)) y)) ≡ true
   unfolding is_formula_node sort_below
-  is-root =
-      rw (root_is, cut-header)
-      (rw (lt-ltb r (count y) (omega arith)) (eq-eqb _ _ (ap (λ (n : Node). sort_of emitted_sorts n.op) (cut-node r (omega arith)) ∙ has.sorted)))
+  is_root =
+      rw (root_is, cut_header)
+      (rw (lt-ltb r (count y) (omega arith)) (eq-eqb _ _ (ap (λ (n : Node). sort_of emitted_sorts n.op) (cut_node r (omega arith)) ∙ has.sorted)))
 
-  pub is-emitted : is_emitted (take (nodes_end (r + 1)) y) ≡ true
+  pub is_emitted_lem : is_emitted (take (nodes_end (r + 1)) y) ≡ true
   unfolding versioned of_kind_two emitted_nodes emitted_operands node_right
-  is-emitted =
+  is_emitted_lem =
       emitted_made (take (nodes_end (r + 1)) y)
       (record {
-        is_framed = is-cut-framed;
+        is_framed = is_cut_framed;
         is_versioned = eq-eqb _ _ (taken_byte (nodes_end (r + 1)) y 2 (omega arith) ∙ good.version);
         of_kind_two_holds = eq-eqb _ _ (taken_byte (nodes_end (r + 1)) y 3 (omega arith) ∙ good.kind);
-        is_counted = is-cut-counted;
-        is_sized = is-cut-sized;
+        is_counted = is_cut_counted;
+        is_sized = is_cut_sized;
         nodes_right_holds =
             every_all _ _
             (λ i l.
-            let below : i < count y = rw cut-header at l in
-            rw (cut-header, cut-node i below) (good.nodes_right_holds i below));
+            let below : i < count y = rw cut_header at l in
+            rw (cut_header, cut_node i below) (good.nodes_right_holds i below));
         operands_right_holds =
             every_all _ _
             (λ i l.
-            let below : i < count y = rw cut-header at l in
-            operands_same (node_in y) (nodes_of (take (nodes_end (r + 1)) y)) i (λ k q. cut-node k (omega arith)) ∙ good.operands_right_holds i below);
-        root_formula = is-root;
-        root_closed = ap (within no_names) cut-formula ∙ closed;
+            let below : i < count y = rw cut_header at l in
+            operands_same (node_in y) (nodes_of (take (nodes_end (r + 1)) y)) i (λ k q. cut_node k (omega arith)) ∙ good.operands_right_holds i below);
+        root_formula = is_root;
+        root_closed = ap (within no_names) cut_formula ∙ closed;
       })
 
 -- ---- the draft
@@ -203,23 +203,23 @@ module _ (s x y₀ y₁ y₂ : List ℕ) (r : ℕ) (o : Opened s) (big : least_o
   bounded : count y₂ ≤ node_bound s
   unfolding node_bound drawings requirement_cost copy_costs nodes_of
   bounded =
-      let m₁ = s₁.names ∙ empty-names x y₀ (header_of s).signals (header_of s).names big e₀ in
+      let m₁ = s₁.names ∙ empty_names x y₀ (header_of s).signals (header_of s).names big e₀ in
       omega (
         arith,
         e₂.step.few,
         s₁.few,
-        empty-count x y₀ (header_of s).signals (header_of s).names big e₀,
+        empty_count x y₀ (header_of s).signals (header_of s).names big e₀,
         ap (λ (m : ℕ). (header_of s).clauses * (11 + 6 * m)) m₁,
         joined_bound (header_of s).clauses (header_of s).names o.in_range.some_clauses o.in_range.few_names,
       )
 
-  draft-written : DraftOf s y₂ r
-  draft-written =
+  draft_written : DraftOf s y₂ r
+  draft_written =
       record {
         good = e₂.step.good;
         last = last;
-        signals = e₂.step.signals ∙ s₁.signals ∙ empty-signals x y₀ (header_of s).signals (header_of s).names big e₀;
-        names = e₂.step.names ∙ s₁.names ∙ empty-names x y₀ (header_of s).signals (header_of s).names big e₀;
+        signals = e₂.step.signals ∙ s₁.signals ∙ empty_signals x y₀ (header_of s).signals (header_of s).names big e₀;
+        names = e₂.step.names ∙ s₁.names ∙ empty_names x y₀ (header_of s).signals (header_of s).names big e₀;
         bound = bounded;
         has = subst (λ (cs : List Clause). Has y₂ r (translation cs)) (clauses_same s) e₂.has;
       }
@@ -238,39 +238,39 @@ module _ (s x y₀ y d : List ℕ) (root r : ℕ) (o : Opened s) (big : least_ou
   unfolding formula_in
   has = subst (Has y r) draft.has.tree (pruned.same.formula draft.has.sorted)
 
-  cut-reached : (i : ℕ) → i < (header_of (take (nodes_end (r + 1)) y)).nodes → Reached (nodes_of (take (nodes_end (r + 1)) y)) (root_of (take (nodes_end (r + 1)) y)) i
-  cut-reached i l =
+  cut_reached : (i : ℕ) → i < (header_of (take (nodes_end (r + 1)) y)).nodes → Reached (nodes_of (take (nodes_end (r + 1)) y)) (root_of (take (nodes_end (r + 1)) y)) i
+  cut_reached i l =
       subst (λ (k : ℕ). Reached (nodes_of (take (nodes_end (r + 1)) y)) k i) (sym (root_is y r _ good has pruned.last closed))
-      (pruned.reached (nodes_of (take (nodes_end (r + 1)) y)) (cut-node y r _ good has pruned.last closed) i
-      (omega (arith, l, ap (λ (g : Header). g.nodes) (cut-header y r _ good has pruned.last closed))))
+      (pruned.reached (nodes_of (take (nodes_end (r + 1)) y)) (cut_node y r _ good has pruned.last closed) i
+      (omega (arith, l, ap (λ (g : Header). g.nodes) (cut_header y r _ good has pruned.last closed))))
 
-  pub formula-written : FormulaOf s (take (nodes_end (r + 1)) y)
+  pub formula_written : FormulaOf s (take (nodes_end (r + 1)) y)
   unfolding emitted_true requirement_of
-  formula-written =
-      let h = cut-header y r _ good has pruned.last closed in
-      let tree = cut-formula y r _ good has pruned.last closed in
-      let none = empty-count x y₀ (header_of s).signals (header_of s).names big e₀ in
+  formula_written =
+      let h = cut_header y r _ good has pruned.last closed in
+      let tree = cut_formula y r _ good has pruned.last closed in
+      let none = empty_count x y₀ (header_of s).signals (header_of s).names big e₀ in
       record {
-        form = is-emitted y r _ good has pruned.last closed;
-        signals = ap (λ (g : Header). g.signals) h ∙ pruned.step.signals ∙ empty-signals x y₀ (header_of s).signals (header_of s).names big e₀;
-        names = ap (λ (g : Header). g.names) h ∙ pruned.step.names ∙ empty-names x y₀ (header_of s).signals (header_of s).names big e₀;
+        form = is_emitted_lem y r _ good has pruned.last closed;
+        signals = ap (λ (g : Header). g.signals) h ∙ pruned.step.signals ∙ empty_signals x y₀ (header_of s).signals (header_of s).names big e₀;
+        names = ap (λ (g : Header). g.names) h ∙ pruned.step.names ∙ empty_names x y₀ (header_of s).signals (header_of s).names big e₀;
         bound = rw h (omega (arith, none, pruned.step.few, draft.last, draft.bound));
-        reached = cut-reached;
+        reached = cut_reached;
         tree = tree ∙ sym (translation_without (clauses_of s));
         agreement = λ σ positive. ap (λ (f : Formula). true_of f σ) tree ∙ agreement σ positive (clauses_of s) (accepted_fits s o);
       }
 
-  pub length-written : length (take (nodes_end (r + 1)) y) ≡ nodes_end (r + 1)
-  length-written = cut-length y r _ good has pruned.last closed
+  pub length_written : length (take (nodes_end (r + 1)) y) ≡ nodes_end (r + 1)
+  length_written = cut_length y r _ good has pruned.last closed
 
-  pub later-kept : drop (nodes_end (r + 1)) y ≡ drop (nodes_end (r + 1)) x
-  later-kept =
+  pub later_kept : drop (nodes_end (r + 1)) y ≡ drop (nodes_end (r + 1)) x
+  later_kept =
       pruned.step.back (nodes_end (r + 1)) (omega (arith, pruned.last))
       ∙ ap (drop (nodes_end (r + 1))) e₀
-      ∙ header-back x emitted_kind (header_of s).signals (header_of s).names 0 0 (nodes_end (r + 1)) (omega arith)
+      ∙ header_back x emitted_kind (header_of s).signals (header_of s).names 0 0 (nodes_end (r + 1)) (omega arith)
 
-  pub size-kept : length y ≡ length x
-  size-kept = pruned.step.size ∙ empty-length x y₀ (header_of s).signals (header_of s).names big e₀
+  pub size_kept : length y ≡ length x
+  size_kept = pruned.step.size ∙ empty_length x y₀ (header_of s).signals (header_of s).names big e₀
 
 -- ---- the three outcomes
 -- an answer has the number that applies
@@ -307,12 +307,12 @@ module _ (s : List ℕ) (h : Header) (accepted : sheet_answer s ≡ SheetAnswer.
   pub header_is : header_of s ≡ h
   header_is = (answer_accepted s h accepted).1
 
-  pub opened-sheet : Opened s
-  opened-sheet = Rattle.stored.proofs.Accepted.opened s no_number
+  pub opened_sheet : Opened s
+  opened_sheet = Rattle.stored.proofs.Accepted.opened s no_number
 
-  pub output-refused : (x : List ℕ) → length x < least_output → Translated s x x (Refused 14)
+  pub output_refused : (x : List ℕ) → length x < least_output → Translated s x x (Refused 14)
   unfolding translate_refusal
-  output-refused x l = refused_law s x 14 (rw (no_number, lt-ltb (length x) least_output l)) (λ z. omega arith)
+  output_refused x l = refused_law s x 14 (rw (no_number, lt-ltb (length x) least_output l)) (λ z. omega arith)
 
   translated : (x y : List ℕ) (l : ℕ) → least_output ≤ length x → length y ≡ length x → FormulaOf s (take l y) → length (take l y) ≡ l → drop l y ≡ drop l x → Translated s x y (Written l)
   unfolding translate_refusal write_answer written_length pick
@@ -340,7 +340,7 @@ pub record Run (s x : List ℕ) (h : Header) (y : List ℕ) (r : ℕ) : Type 0 w
 pub run_drafted : {y : List ℕ} {r : ℕ} (s x : List ℕ) (h : Header) → sheet_answer s ≡ SheetAnswer.Accepted h → least_output ≤ length x → Run s x h y r → DraftOf s y r
 run_drafted {y} {r} s x h accepted big run =
     let u : Run s x (header_of s) y r = subst (λ (g : Header). Run s x g y r) (sym (header_is s h accepted)) run in
-    draft-written s x u.y₀ u.y₁ y r (opened-sheet s h accepted) big u.headed u.shared u.required u.last
+    draft_written s x u.y₀ u.y₁ y r (opened_sheet s h accepted) big u.headed u.shared u.required u.last
 
 -- bytes with a header and no node, for what the draft's root reaches
 module _ {s y₀ d : List ℕ} {h : Header} {root : ℕ} (x : List ℕ) (accepted : sheet_answer s ≡ SheetAnswer.Accepted h) (big : least_output ≤ length x)
@@ -350,25 +350,25 @@ module _ {s y₀ d : List ℕ} {h : Header} {root : ℕ} (x : List ℕ) (accepte
 
   pub drafted : Drafted d root y₀
   drafted =
-      let k = (opened-sheet s h accepted).in_range in
+      let k = (opened_sheet s h accepted).in_range in
       record {
         good = draft.good;
         last = draft.last;
-        new = empty-good x y₀ (header_of s).signals (header_of s).names big headed k.some_signals k.few_signals k.few_names;
-        none = empty-count x y₀ (header_of s).signals (header_of s).names big headed;
-        signals = empty-signals x y₀ (header_of s).signals (header_of s).names big headed ∙ sym draft.signals;
-        names = empty-names x y₀ (header_of s).signals (header_of s).names big headed ∙ sym draft.names;
+        new = empty_good x y₀ (header_of s).signals (header_of s).names big headed k.some_signals k.few_signals k.few_names;
+        none = empty_count x y₀ (header_of s).signals (header_of s).names big headed;
+        signals = empty_signals x y₀ (header_of s).signals (header_of s).names big headed ∙ sym draft.signals;
+        names = empty_names x y₀ (header_of s).signals (header_of s).names big headed ∙ sym draft.names;
       }
 
-  pub run-translated : {y : List ℕ} {r l : ℕ} → PrunedTo d root y₀ y r → l ≡ nodes_end (r + 1) → Translated s x y (Written l)
-  run-translated {y} {r} {l} pruned f =
-      let o = opened-sheet s h accepted in
+  pub run_translated : {y : List ℕ} {r l : ℕ} → PrunedTo d root y₀ y r → l ≡ nodes_end (r + 1) → Translated s x y (Written l)
+  run_translated {y} {r} {l} pruned f =
+      let o = opened_sheet s h accepted in
       rw f
       (translated s h accepted x y (nodes_end (r + 1)) big
-      (size-kept s x y₀ y d root r o big headed draft pruned)
-      (formula-written s x y₀ y d root r o big headed draft pruned)
-      (length-written s x y₀ y d root r o big headed draft pruned)
-      (later-kept s x y₀ y d root r o big headed draft pruned))
+      (size_kept s x y₀ y d root r o big headed draft pruned)
+      (formula_written s x y₀ y d root r o big headed draft pruned)
+      (length_written s x y₀ y d root r o big headed draft pruned)
+      (later_kept s x y₀ y d root r o big headed draft pruned))
 
 -- what was put for the parts that were handed over was put for the sheet's
 pub required_parts : (s y y' : List ℕ) (r : ℕ) (h : Header) (nodes clauses : List ℕ) → nodes ≡ node_part s → clauses ≡ clause_part s
@@ -380,16 +380,16 @@ required_parts s y y' r h nodes clauses at after e =
 
 -- the parts of an accepted sheet, by the header that was read
 module _ (s : List ℕ) (h : Header) (e : header_of s ≡ h) (o : Opened s) (y : List ℕ) (signals : (header_of y).signals ≡ h.signals) (names : (header_of y).names ≡ h.names) where
-  pub nodes-read : (nodes : List ℕ) → nodes ≡ node_part s → NodesIn y nodes h.nodes
-  nodes-read nodes at =
+  pub nodes_read : (nodes : List ℕ) → nodes ≡ node_part s → NodesIn y nodes h.nodes
+  nodes_read nodes at =
       subst (λ (x : List ℕ). NodesIn y x h.nodes) (sym at)
       (subst (λ (g : Header). NodesIn y (node_part s) g.nodes) e
-      (nodes-in-sheet s o y (signals ∙ ap (λ (g : Header). g.signals) (sym e)) (names ∙ ap (λ (g : Header). g.names) (sym e))))
+      (nodes_in_sheet s o y (signals ∙ ap (λ (g : Header). g.signals) (sym e)) (names ∙ ap (λ (g : Header). g.names) (sym e))))
 
-  pub clauses-read : (nodes clauses : List ℕ) → nodes ≡ node_part s → clauses ≡ clause_part s → (n : ℕ) → n ≤ h.clauses → ClausesIn y nodes h.nodes clauses n
-  clauses-read nodes clauses at after n few =
+  pub clauses_read : (nodes clauses : List ℕ) → nodes ≡ node_part s → clauses ≡ clause_part s → (n : ℕ) → n ≤ h.clauses → ClausesIn y nodes h.nodes clauses n
+  clauses_read nodes clauses at after n few =
       subst (λ (x : List ℕ). ClausesIn y x h.nodes clauses n) (sym at)
       (subst (λ (x : List ℕ). ClausesIn y (node_part s) h.nodes x n) (sym after)
       (subst (λ (g : Header). ClausesIn y (node_part s) g.nodes (clause_part s) n) e
-      (clauses-in-sheet s o y (signals ∙ ap (λ (g : Header). g.signals) (sym e)) (names ∙ ap (λ (g : Header). g.names) (sym e)) n
+      (clauses_in_sheet s o y (signals ∙ ap (λ (g : Header). g.signals) (sym e)) (names ∙ ap (λ (g : Header). g.names) (sym e)) n
       (subst (λ (g : Header). n ≤ g.clauses) (sym e) few))))

@@ -1,4 +1,6 @@
 // The translator: writes the formula of a sheet's requirement as a kind 2 sheet.
+#![tactic(auto)]
+
 ghost use Rattle.std.specs.Prelude.{◌≡◌, ◌≤◌, length};
 ghost use Rattle.stored.specs.Layout.{least_output};
 ghost use Rattle.stored.specs.Sheet.{sheet_answer};

@@ -38,9 +38,9 @@ kept_then {size} {d} {e} {f} x y =
 
 -- one entry more
 module _ (size most : ℕ) (entry : List ℕ) (d : Draft) where
-  pub added-kept : Kept size d (added size most entry d)
+  pub added_kept : Kept size d (added size most entry d)
   unfolding added
-  added-kept = record { more = omega arith; long = long (ltb d.count most); same = same (ltb d.count most) }
+  added_kept = record { more = omega arith; long = long (ltb d.count most); same = same (ltb d.count most) }
     where
       long : (b : Bool) → length (cond b (sets d.bytes (size * d.count) entry) d.bytes) ≡ length d.bytes
       long true = length-sets d.bytes (size * d.count) entry
@@ -51,10 +51,10 @@ module _ (size most : ℕ) (entry : List ℕ) (d : Draft) where
       same true k h = get_or_before d.bytes (size * d.count) entry k h
       same false k h = refl
 
-  pub added-read : d.count < most → size * d.count + length entry ≤ length d.bytes
+  pub added_read : d.count < most → size * d.count + length entry ≤ length d.bytes
       → (r : ℕ) → r < length entry → get_or (added size most entry d).bytes (size * d.count + r) 0 ≡ get_or entry r 0
   unfolding added
-  added-read room fits r h = rw (lt-ltb d.count most room) (get_or_put d.bytes (size * d.count) entry r fits h)
+  added_read room fits r h = rw (lt-ltb d.count most room) (get_or_put d.bytes (size * d.count) entry r fits h)
 
 -- ---- nodes
 pub node_kept : {d e : Draft} → Kept 6 d e → (i : ℕ) → i < d.count → node_at e.bytes i ≡ node_at d.bytes i
@@ -62,14 +62,14 @@ node_kept {d} {e} x i h = node_same e.bytes d.bytes i (λ r l. x.same (6 * i + r
 
 pub put_kept : (x : Node) (d : Draft) → Kept 6 d (put x d)
 unfolding put
-put_kept x d = added-kept node_size most_nodes (node_bytes x) d
+put_kept x d = added_kept node_size most_nodes (node_bytes x) d
 
 pub put_read : (x : Node) (d : Draft) → length d.bytes ≡ 384 → d.count < 64 → node_at (put x d).bytes d.count ≡ x
 unfolding put node_bytes
 put_read x d long room =
     let l = (put x d).bytes in
     let i = d.count in
-    let byte = added-read node_size most_nodes (node_bytes x) d room (omega arith) in
+    let byte = added_read node_size most_nodes (node_bytes x) d room (omega arith) in
     let first : 6 * i ≡ 6 * i + 0 = omega arith in
     let third : 6 * i + 2 + 1 ≡ 6 * i + 3 = omega arith in
     let fifth : 6 * i + 4 + 1 ≡ 6 * i + 5 = omega arith in
@@ -112,14 +112,14 @@ stored_kept {d} {e} x k h = stored_same e.bytes d.bytes k (λ r l. x.same (11 * 
 
 pub clause_kept : (x : StoredClause) (d : Draft) → Kept 11 d (put_clause x d)
 unfolding put_clause
-clause_kept x d = added-kept clause_size most_clauses (clause_bytes x) d
+clause_kept x d = added_kept clause_size most_clauses (clause_bytes x) d
 
 pub clause_read : (x : StoredClause) (d : Draft) → length d.bytes ≡ 88 → d.count < 8 → stored_at (put_clause x d).bytes d.count ≡ x
 unfolding put_clause clause_bytes stored_at
 clause_read x d long room =
     let l = (put_clause x d).bytes in
     let i = d.count in
-    let byte = added-read clause_size most_clauses (clause_bytes x) d room (omega arith) in
+    let byte = added_read clause_size most_clauses (clause_bytes x) d room (omega arith) in
     let first : 11 * i ≡ 11 * i + 0 = omega arith in
     let low1 : 11 * i + 2 + 1 ≡ 11 * i + 3 = omega arith in
     let low2 : 11 * i + 4 + 1 ≡ 11 * i + 5 = omega arith in

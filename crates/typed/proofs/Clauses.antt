@@ -24,11 +24,11 @@ use Rattle.stored.proofs.Tree.{formula_agree}
 use Rattle.stored.proofs.Reach.{joint_zero_l, joint_zero_r, joint_small, name_small}
 use Rattle.grammar.specs.Tree.{TypedPart, TypedClause, pref_c, anti_c, init_c, implies_c, follows_c, triggers_c, Line, assume_l, require_l}
 use Rattle.grammar.specs.Spelled.{is_among}
-use Rattle.grammar.specs.Small.{smallOrF, small_names, small_part, small_clause, small_line, small_lines}
+use Rattle.grammar.specs.Small.{small_or_f, small_names, small_part, small_clause, small_line, small_lines}
 use Rattle.typed.specs.Meaning.{meant_names, meant_part, parts_of, meant_type, meant_clause, meant_line, meant_lines}
 use Rattle.typed.specs.Draft.{Draft, added, last, put_part, mask_of, put_clause, Sketch, put_parts, roots_of, part_mask, type_number, fields_of, put_typed, put_line, put_lines}
 use Rattle.typed.proofs.Areas.{Kept, kept_self, kept_then, node_kept, stored_kept, clause_kept, clause_read}
-use Rattle.typed.proofs.Trees.{Grew, grew-OrF, formula_last, says-OrF}
+use Rattle.typed.proofs.Trees.{Grew, grew_or_f, formula_last, says_or_f}
 
 -- ---- names
 name_bit : (u v : ℕ) → u < 3 → bit (name_mask u) v ≡ eqb v u
@@ -47,16 +47,16 @@ joint_assoc a b c p q r =
     same_bits 3 (joint (joint a b) c) (joint a (joint b c))
     (joint_small (joint a b) c (joint_small a b p q) r)
     (joint_small a (joint b c) p (joint_small b c q r))
-    (λ k h. joint-bit (joint a b) c k ∙ ap (λ (x : Bool). x || bit c k) (joint-bit a b k)
+    (λ k h. joint_bit (joint a b) c k ∙ ap (λ (x : Bool). x || bit c k) (joint_bit a b k)
     ∙ or_assoc (bit a k) (bit b k) (bit c k)
-    ∙ sym (joint-bit a (joint b c) k ∙ ap (λ (x : Bool). bit a k || x) (joint-bit b c k)))
+    ∙ sym (joint_bit a (joint b c) k ∙ ap (λ (x : Bool). bit a k || x) (joint_bit b c k)))
   where
     or_assoc : (x y z : Bool) → ((x || y) || z) ≡ (x || (y || z))
     or_assoc true y z = refl
     or_assoc false y z = refl
 
-    joint-bit : (a b k : ℕ) → bit (joint a b) k ≡ (bit a k || bit b k)
-    joint-bit a b k = bit_or_lem a b k
+    joint_bit : (a b k : ℕ) → bit (joint a b) k ≡ (bit a k || bit b k)
+    joint_bit a b k = bit_or_lem a b k
 
 pub mask_bit : (names : List ℕ) (v : ℕ) → small_names names ≡ true → bit (mask_of names) v ≡ is_among v names
 unfolding mask_of is_among small_names joint
@@ -93,7 +93,7 @@ agrees_before k a i h = let more = k.more in a i (omega arith) ∙ node_kept k i
 
 part_grew : (d : TypedPart) (y : Draft) → Grew y (put_part d y)
 unfolding put_part
-part_grew d y = grew-OrF d.formula y
+part_grew d y = grew_or_f d.formula y
 
 -- the tree at the last node of a part goes by these nodes
 part_tree : (d : TypedPart) (y : Draft) (x : ℕ → Node) → Agrees x (put_part d y) → formula_at x (last (put_part d y)) ≡ formula_last (put_part d y)
@@ -107,8 +107,8 @@ part_read : (d : TypedPart) (y : Draft) (x : ℕ → Node) → small_part d ≡ 
 unfolding part_of meant_part small_part put_part
 part_read d y x h long few a =
     ap₂ (λ (f : Formula) (s : Names). let p : Part = record { formula = f; names = s } in p)
-    (part_tree d y x a ∙ says-OrF d.formula y (and_left (smallOrF d.formula) (small_names d.names) h) long few)
-    (mask_read d.names (and_right (smallOrF d.formula) (small_names d.names) h))
+    (part_tree d y x a ∙ says_or_f d.formula y (and_left (small_or_f d.formula) (small_names d.names) h) long few)
+    (mask_read d.names (and_right (small_or_f d.formula) (small_names d.names) h))
 
 parts_kept : (ds : List TypedPart) (y : Draft) → Kept 6 y (put_parts ds y)
 unfolding put_parts

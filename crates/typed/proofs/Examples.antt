@@ -5,20 +5,20 @@ use mathlib.Core.Path.{◌≡◌, refl}
 use Rattle.semantics.specs.Formula.{at_most}
 use Rattle.stored.specs.Reach.{joint, name_mask}
 use Rattle.stored.specs.Written.{node_bytes, header_bytes}
-use Rattle.grammar.specs.Tree.{OrP, oneP, orP, unitP, andP, UnitP, signalP, nameP, notP, OrF, oneF, chainF, unitF, chopF, UnitF, pointF, stretchF, drawF, gapF, starF, slenF, TypedPart, anti_c, follows_c, assume_l, require_l, TypedSheet}
+use Rattle.grammar.specs.Tree.{OrP, one_p, or_p, unit_p, and_p, UnitP, signalP, nameP, not_p, OrF, one_f, chain_f, unit_f, chop_f, UnitF, pointF, stretchF, draw_f, gap_f, starF, slen_f, TypedPart, anti_c, follows_c, assume_l, require_l, TypedSheet}
 use Rattle.typed.specs.Meaning.{parts_of}
-use Rattle.typed.specs.Draft.{added, last, put, put_over, put_joined, putOrP, putAndP, putUnitP, comparison_number, in_byte, putOrF, putAndF, putChopF, putUnitF, clause_bytes, put_clause, mask_of, put_part, put_parts, roots_of, part_mask, type_number, fields_of, put_typed, put_line, put_lines, empty, sketch_of, too_many, sheet_bytes, typed_bytes}
+use Rattle.typed.specs.Draft.{added, last, put, put_over, put_joined, put_or_p, put_and_p, put_unit_p, comparison_number, in_byte, put_or_f, put_and_f, put_chop_f, put_unit_f, clause_bytes, put_clause, mask_of, put_part, put_parts, roots_of, part_mask, type_number, fields_of, put_typed, put_line, put_lines, empty, sketch_of, too_many, sheet_bytes, typed_bytes}
 
 unfoldable computing : ℕ
-unfolding joint name_mask node_bytes added last put put_over put_joined putOrP putAndP putUnitP comparison_number in_byte putOrF putAndF putChopF putUnitF clause_bytes put_clause mask_of put_part parts_of put_parts roots_of part_mask type_number fields_of put_typed put_line put_lines empty sketch_of too_many header_bytes sheet_bytes typed_bytes
+unfolding joint name_mask node_bytes added last put put_over put_joined put_or_p put_and_p put_unit_p comparison_number in_byte put_or_f put_and_f put_chop_f put_unit_f clause_bytes put_clause mask_of put_part parts_of put_parts roots_of part_mask type_number fields_of put_typed put_line put_lines empty sketch_of too_many header_bytes sheet_bytes typed_bytes
 computing = 0
 
 -- a proposition and a formula of one piece
 abbrev single : UnitP → OrP
-single p = oneP (unitP p)
+single p = one_p (unit_p p)
 
 abbrev alone : UnitF → OrF
-alone f = oneF (chainF (unitF f))
+alone f = one_f (chain_f (unit_f f))
 
 abbrev part : OrF → List ℕ → TypedPart
 part f names = record { formula = f; names = names }
@@ -47,14 +47,14 @@ second =
           assume_l
           (follows_c
           (part
-          (oneF
-          (chainF
-          (chopF
-          (unitF (stretchF (orP (single (signalP 0)) (andP (unitP (notP (signalP 1))) (nameP 0)))))
-          (slenF at_most 700))))
+          (one_f
+          (chain_f
+          (chop_f
+          (unit_f (stretchF (or_p (single (signalP 0)) (and_p (unit_p (not_p (signalP 1))) (nameP 0)))))
+          (slen_f at_most 700))))
           (0 ∷ []))
-          (part (alone (starF (alone (drawF 300 1)))) (1 ∷ 2 ∷ []))
-          (part (alone (gapF 2 1 1 2)) []))
+          (part (alone (starF (alone (draw_f 300 1)))) (1 ∷ 2 ∷ []))
+          (part (alone (gap_f 2 1 1 2)) []))
           ∷ [];
     }
 

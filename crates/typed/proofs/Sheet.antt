@@ -67,85 +67,85 @@ pub record Whole (x y : Draft) : Type 0 where
   pub clauses_there : 11 * y.count ≤ length y.bytes
 
 module _ (s m : ℕ) (x y : Draft) where
-  pub sheet-header : header_of (sheet_bytes s m x y) ≡ record { signals = in_byte s; names = in_byte m; nodes = x.count; clauses = y.count }
+  pub sheet_header : header_of (sheet_bytes s m x y) ≡ record { signals = in_byte s; names = in_byte m; nodes = x.count; clauses = y.count }
   unfolding header_of word sheet_bytes header_bytes
-  sheet-header = rw (halves x.count)
+  sheet_header = rw (halves x.count)
 
   module _ (whole : Whole x y) where
     nodes_long : length (take (6 * x.count) x.bytes) ≡ 6 * x.count
     nodes_long = length-take-le (6 * x.count) x.bytes whole.nodes_there
 
-    clauses-long : length (take (11 * y.count) y.bytes) ≡ 11 * y.count
-    clauses-long = length-take-le (11 * y.count) y.bytes whole.clauses_there
+    clauses_long : length (take (11 * y.count) y.bytes) ≡ 11 * y.count
+    clauses_long = length-take-le (11 * y.count) y.bytes whole.clauses_there
 
-    pub sheet-length : length (sheet_bytes s m x y) ≡ 9 + 6 * x.count + 11 * y.count
+    pub sheet_length : length (sheet_bytes s m x y) ≡ 9 + 6 * x.count + 11 * y.count
     unfolding sheet_bytes header_bytes
-    sheet-length =
+    sheet_length =
         let both = length-append (take (6 * x.count) x.bytes) (take (11 * y.count) y.bytes) in
         let n = nodes_long in
-        let c = clauses-long in
+        let c = clauses_long in
         omega arith
 
     -- rules 1, 2, 3 and 5 are kept
-    pub sheet-framed : framed (sheet_bytes s m x y) ≡ true
+    pub sheet_framed : framed (sheet_bytes s m x y) ≡ true
     unfolding framed framed_from word sheet_bytes header_bytes
-    sheet-framed =
-        let long = sheet-length in
+    sheet_framed =
+        let long = sheet_length in
         let z = length (sheet_bytes s m x y) in
         let rest = halves (following (clauses_end x.count y.count)) in
         let all : following (clauses_end x.count y.count) ≡ z - 2 = omega arith in
         and_intro _ _ (le-leb 9 z (omega arith)) (eq-eqb _ (z - 2) (rest ∙ all))
 
-    pub sheet-versioned : versioned (sheet_bytes s m x y) ≡ true
+    pub sheet_versioned : versioned (sheet_bytes s m x y) ≡ true
     unfolding versioned sheet_bytes header_bytes
-    sheet-versioned = refl
+    sheet_versioned = refl
 
-    pub sheet-ofKindOne : of_kind_one (sheet_bytes s m x y) ≡ true
+    pub sheet_of_kind_one : of_kind_one (sheet_bytes s m x y) ≡ true
     unfolding of_kind_one sheet_bytes header_bytes
-    sheet-ofKindOne = refl
+    sheet_of_kind_one = refl
 
-    pub sheet-sized : sized (sheet_bytes s m x y) ≡ true
+    pub sheet_sized : sized (sheet_bytes s m x y) ≡ true
     unfolding sized
-    sheet-sized = rw sheet-header (eq-eqb _ _ sheet-length)
+    sheet_sized = rw sheet_header (eq-eqb _ _ sheet_length)
 
     -- the two areas
-    nodes-cut : 9 + 6 * x.count - 9 ≡ 6 * x.count
-    nodes-cut = omega arith
+    nodes_cut : 9 + 6 * x.count - 9 ≡ 6 * x.count
+    nodes_cut = omega arith
 
-    nodes-front : take (6 * x.count) (drop 9 (sheet_bytes s m x y)) ≡ take (6 * x.count) x.bytes
+    nodes_front : take (6 * x.count) (drop 9 (sheet_bytes s m x y)) ≡ take (6 * x.count) x.bytes
     unfolding sheet_bytes header_bytes
-    nodes-front = take_at (take (6 * x.count) x.bytes) (take (11 * y.count) y.bytes) (6 * x.count) nodes_long
+    nodes_front = take_at (take (6 * x.count) x.bytes) (take (11 * y.count) y.bytes) (6 * x.count) nodes_long
 
-    nodes-part : node_part (sheet_bytes s m x y) ≡ take (6 * x.count) x.bytes
+    nodes_part : node_part (sheet_bytes s m x y) ≡ take (6 * x.count) x.bytes
     unfolding node_part
-    nodes-part = rw (sheet-header, nodes-cut) nodes-front
+    nodes_part = rw (sheet_header, nodes_cut) nodes_front
 
-    clauses-cut : 9 + 6 * x.count + 11 * y.count - (9 + 6 * x.count) ≡ 11 * y.count
-    clauses-cut = omega arith
+    clauses_cut : 9 + 6 * x.count + 11 * y.count - (9 + 6 * x.count) ≡ 11 * y.count
+    clauses_cut = omega arith
 
-    clauses-rest : drop (9 + 6 * x.count) (sheet_bytes s m x y) ≡ take (11 * y.count) y.bytes
+    clauses_rest : drop (9 + 6 * x.count) (sheet_bytes s m x y) ≡ take (11 * y.count) y.bytes
     unfolding sheet_bytes header_bytes
-    clauses-rest =
+    clauses_rest =
         sym (drop-drop (6 * x.count) 9 (sheet_bytes s m x y))
         ∙ drop_at (take (6 * x.count) x.bytes) (take (11 * y.count) y.bytes) (6 * x.count) nodes_long
 
-    clauses-part : clause_part (sheet_bytes s m x y) ≡ take (11 * y.count) y.bytes
+    clauses_part : clause_part (sheet_bytes s m x y) ≡ take (11 * y.count) y.bytes
     unfolding clause_part
-    clauses-part =
-        rw (sheet-header, clauses-cut, clauses-rest)
-        (take_all (11 * y.count) (take (11 * y.count) y.bytes) (omega (arith, clauses-long)))
+    clauses_part =
+        rw (sheet_header, clauses_cut, clauses_rest)
+        (take_all (11 * y.count) (take (11 * y.count) y.bytes) (omega (arith, clauses_long)))
 
     -- the nodes and the clauses that are counted
-    pub sheet-nodes : Agrees (nodes_of (sheet_bytes s m x y)) x
+    pub sheet_nodes : Agrees (nodes_of (sheet_bytes s m x y)) x
     unfolding nodes_of
-    sheet-nodes i h =
-        rw nodes-part
+    sheet_nodes i h =
+        rw nodes_part
         (node_same (take (6 * x.count) x.bytes) x.bytes i (λ r l. get_or-take (6 * x.count) x.bytes (6 * i + r) 0 (omega arith)))
 
-    pub sheet-clauses : (k : ℕ) → k < y.count → stored_of (sheet_bytes s m x y) k ≡ stored_at y.bytes k
+    pub sheet_clauses : (k : ℕ) → k < y.count → stored_of (sheet_bytes s m x y) k ≡ stored_at y.bytes k
     unfolding stored_of
-    sheet-clauses k h =
-        rw clauses-part
+    sheet_clauses k h =
+        rw clauses_part
         (stored_same (take (11 * y.count) y.bytes) y.bytes k (λ r l. get_or-take (11 * y.count) y.bytes (11 * k + r) 0 (omega arith)))
 
 -- ---- a typed sheet of no more than 64 nodes and 8 clauses
@@ -196,28 +196,28 @@ pub typed_header : (t : TypedSheet)
       clauses = (sketch_of t).clauses.count;
     }
 unfolding typed_bytes
-typed_header t = sheet-header t.signals t.names (sketch_of t).nodes (sketch_of t).clauses
+typed_header t = sheet_header t.signals t.names (sketch_of t).nodes (sketch_of t).clauses
 
 -- rules 1, 2, 3 and 5 are kept
 module _ (t : TypedSheet) (h : too_many t ≡ false) where
   whole : Whole (sketch_of t).nodes (sketch_of t).clauses
   whole = typed_whole t (few_of t h)
 
-  pub typed-framed : framed (typed_bytes t) ≡ true
+  pub typed_framed : framed (typed_bytes t) ≡ true
   unfolding typed_bytes
-  typed-framed = sheet-framed t.signals t.names (sketch_of t).nodes (sketch_of t).clauses whole
+  typed_framed = sheet_framed t.signals t.names (sketch_of t).nodes (sketch_of t).clauses whole
 
-  pub typed-versioned : versioned (typed_bytes t) ≡ true
+  pub typed_versioned : versioned (typed_bytes t) ≡ true
   unfolding typed_bytes
-  typed-versioned = sheet-versioned t.signals t.names (sketch_of t).nodes (sketch_of t).clauses whole
+  typed_versioned = sheet_versioned t.signals t.names (sketch_of t).nodes (sketch_of t).clauses whole
 
-  pub typed-ofKindOne : of_kind_one (typed_bytes t) ≡ true
+  pub typed_of_kind_one : of_kind_one (typed_bytes t) ≡ true
   unfolding typed_bytes
-  typed-ofKindOne = sheet-ofKindOne t.signals t.names (sketch_of t).nodes (sketch_of t).clauses whole
+  typed_of_kind_one = sheet_of_kind_one t.signals t.names (sketch_of t).nodes (sketch_of t).clauses whole
 
-  pub typed-sized : sized (typed_bytes t) ≡ true
+  pub typed_sized : sized (typed_bytes t) ≡ true
   unfolding typed_bytes
-  typed-sized = sheet-sized t.signals t.names (sketch_of t).nodes (sketch_of t).clauses whole
+  typed_sized = sheet_sized t.signals t.names (sketch_of t).nodes (sketch_of t).clauses whole
 
 -- rule 4 answers as it would for s and m themselves
 pub typed_counted : (t : TypedSheet)
@@ -251,11 +251,11 @@ typed_clauses t h small =
     let counted : (header_of s).clauses ≡ length t.lines = ap (λ (x : Header). x.clauses) (typed_header t) ∙ many in
     ap (λ (n : ℕ). in_order n (clause_in s)) counted
     ∙ lines_read t.lines empty (nodes_of s) (clause_in s) (small_lines_lem t small) empty_nodes empty_clauses few.nodes few.clauses
-    (sheet-nodes t.signals t.names z.nodes z.clauses whole)
+    (sheet_nodes t.signals t.names z.nodes z.clauses whole)
     (λ k l.
     let here : k ≡ empty.clauses.count + k = first k in
     ap (clause_of (nodes_of s))
-    (sheet-clauses t.signals t.names z.nodes z.clauses whole k (omega arith)
+    (sheet_clauses t.signals t.names z.nodes z.clauses whole k (omega arith)
     ∙ ap (stored_at z.clauses.bytes) here))
   where
     first : (k : ℕ) → k ≡ empty.clauses.count + k
@@ -298,39 +298,39 @@ alike_fails {c} {c'} a r σ =
     a.role_same (a.breaks_same σ)
 
 module _ (u u' : Part) (σ : Trace) where
-  unused-fails : (r : Role) (ls : List Line) → some_fails r (meant_lines u ls) σ ≡ some_fails r (meant_lines u' ls) σ
+  unused_fails : (r : Role) (ls : List Line) → some_fails r (meant_lines u ls) σ ≡ some_fails r (meant_lines u' ls) σ
   unfolding some_fails meant_lines
-  unused-fails r [] = refl
-  unused-fails r (l ∷ more) = ap₂ (λ (x y : Bool). x || y) (alike_fails (unused_line u u' l) r σ) (unused-fails r more)
+  unused_fails r [] = refl
+  unused_fails r (l ∷ more) = ap₂ (λ (x y : Bool). x || y) (alike_fails (unused_line u u' l) r σ) (unused_fails r more)
 
-  unused-excused : (from : ℕ) (ls : List Line) (v : Finding) → excused_or from (meant_lines u ls) σ v ≡ excused_or from (meant_lines u' ls) σ v
+  unused_excused : (from : ℕ) (ls : List Line) (v : Finding) → excused_or from (meant_lines u ls) σ v ≡ excused_or from (meant_lines u' ls) σ v
   unfolding excused_or meant_lines
-  unused-excused from [] v = refl
-  unused-excused from (l ∷ more) v =
-      ap₂ (λ (x : Bool) (y : Finding). cond x (Excused from) y) (alike_fails (unused_line u u' l) assumption σ) (unused-excused (suc from) more v)
+  unused_excused from [] v = refl
+  unused_excused from (l ∷ more) v =
+      ap₂ (λ (x : Bool) (y : Finding). cond x (Excused from) y) (alike_fails (unused_line u u' l) assumption σ) (unused_excused (suc from) more v)
 
-  unused-broken : (from : ℕ) (ls : List Line) (v : Finding) → broken_or from (meant_lines u ls) σ v ≡ broken_or from (meant_lines u' ls) σ v
+  unused_broken : (from : ℕ) (ls : List Line) (v : Finding) → broken_or from (meant_lines u ls) σ v ≡ broken_or from (meant_lines u' ls) σ v
   unfolding broken_or meant_lines
-  unused-broken from [] v = refl
-  unused-broken from (l ∷ more) v =
+  unused_broken from [] v = refl
+  unused_broken from (l ∷ more) v =
       let a = unused_line u u' l in
       ap₂ (λ (x : Bool) (y : Finding). cond x (Broken (first_place from (length σ) (breaks (meant_line u l) σ))) y)
-      (alike_fails a commitment σ) (unused-broken (suc from) more v)
+      (alike_fails a commitment σ) (unused_broken (suc from) more v)
       ∙ ap
       (λ (b : ℕ → ℕ → ℕ → Bool).
       cond (fails_as commitment σ (meant_line u' l)) (Broken (first_place from (length σ) b)) (broken_or (suc from) (meant_lines u' more) σ v))
       (a.breaks_same σ)
 
-  pub unused-requirement : (t : TypedSheet) → requirement (clauses_meant u t) σ ≡ requirement (clauses_meant u' t) σ
+  pub unused_requirement : (t : TypedSheet) → requirement (clauses_meant u t) σ ≡ requirement (clauses_meant u' t) σ
   unfolding requirement clauses_meant
-  unused-requirement t =
-      ap₂ (λ (x y : Bool). x || not y) (unused-fails assumption t.lines) (unused-fails commitment t.lines)
+  unused_requirement t =
+      ap₂ (λ (x y : Bool). x || not y) (unused_fails assumption t.lines) (unused_fails commitment t.lines)
 
-  unused-finding : (t : TypedSheet) → finding_of (clauses_meant u t) σ ≡ finding_of (clauses_meant u' t) σ
+  unused_finding : (t : TypedSheet) → finding_of (clauses_meant u t) σ ≡ finding_of (clauses_meant u' t) σ
   unfolding finding_of clauses_meant
-  unused-finding t =
-      unused-excused 0 t.lines (broken_or 0 (meant_lines u t.lines) σ Holds)
-      ∙ ap (excused_or 0 (meant_lines u' t.lines) σ) (unused-broken 0 t.lines Holds)
+  unused_finding t =
+      unused_excused 0 t.lines (broken_or 0 (meant_lines u t.lines) σ Holds)
+      ∙ ap (excused_or 0 (meant_lines u' t.lines) σ) (unused_broken 0 t.lines Holds)
 
 -- no word makes a typed clause advice
 no_advice : (u : Part) (σ : Trace) (ls : List Line) → advice_of (meant_lines u ls) σ ≡ 0
@@ -347,18 +347,18 @@ typed_alone u σ t = ap (λ (x : ℕ). record { finding = finding_of (clauses_me
 unused_verdict : (u u' : Part) (σ : Trace) (t : TypedSheet) → verdict (clauses_meant u t) σ ≡ verdict (clauses_meant u' t) σ
 unused_verdict u u' σ t =
     typed_alone u σ t
-    ∙ ap (λ (f : Finding). record { finding = f; advice = 0 }) (unused-finding u u' σ t)
+    ∙ ap (λ (f : Finding). record { finding = f; advice = 0 }) (unused_finding u u' σ t)
     ∙ sym (typed_alone u' σ t)
 
 -- ---- the stored sheet's requirement and verdicts are those of what the typed sheet says, whatever stands for unused parts
 module _ (t : TypedSheet) (h : too_many t ≡ false) (small : small_sheet t ≡ true) (unused : Part) (σ : Trace) where
-  pub typed-requirement : requirement_of (typed_bytes t) σ ≡ requirement (clauses_meant unused t) σ
+  pub typed_requirement : requirement_of (typed_bytes t) σ ≡ requirement (clauses_meant unused t) σ
   unfolding requirement_of
-  typed-requirement =
+  typed_requirement =
       ap (λ (cs : List Clause). requirement cs σ) (typed_clauses t h small)
-      ∙ unused-requirement (part_of (nodes_of (typed_bytes t)) 0 0) unused σ t
+      ∙ unused_requirement (part_of (nodes_of (typed_bytes t)) 0 0) unused σ t
 
-  pub typed-verdict : verdict (clauses_of (typed_bytes t)) σ ≡ verdict (clauses_meant unused t) σ
-  typed-verdict =
+  pub typed_verdict : verdict (clauses_of (typed_bytes t)) σ ≡ verdict (clauses_meant unused t) σ
+  typed_verdict =
       ap (λ (cs : List Clause). verdict cs σ) (typed_clauses t h small)
       ∙ unused_verdict (part_of (nodes_of (typed_bytes t)) 0 0) unused σ t

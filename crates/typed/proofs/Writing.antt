@@ -11,13 +11,13 @@ use Rattle.stored.proofs.Written.{drop_after}
 use Rattle.stored.specs.Written.{header_bytes, put_header}
 use Rattle.stored.specs.Layout.{requirement_kind, nodes_start, node_size, clause_size, nodes_end, clauses_end}
 use Rattle.typed.specs.Draft.{draft, added, in_byte, sheet_bytes, front_of}
-use Rattle.typed.proofs.Sheet.{sheet-length}
+use Rattle.typed.proofs.Sheet.{sheet_length}
 
 -- one entry more, where there is room for it and where there is none
 module _ (size most : ℕ) (entry bytes : List ℕ) (count : ℕ) where
-  pub added-there : count < most → draft (sets bytes (size * count) entry) (count + 1) ≡ added size most entry (draft bytes count)
+  pub added_there : count < most → draft (sets bytes (size * count) entry) (count + 1) ≡ added size most entry (draft bytes count)
   unfolding added
-  added-there h = rw (add-one, lt-ltb count most h)
+  added_there h = rw (add-one, lt-ltb count most h)
 
   pub added_none : most ≤ count → draft bytes (count + 1) ≡ added size most entry (draft bytes count)
   unfolding added
@@ -45,45 +45,45 @@ module _ (out nodes clauses : List ℕ) (s m n c : ℕ) (room : clauses_end n c 
   headed : List ℕ
   headed = sets out 0 (header_bytes requirement_kind (in_byte s) (in_byte m) n c)
 
-  headed-long : length headed ≡ length out
+  headed_long : length headed ≡ length out
   unfolding headed
-  headed-long = length-sets out 0 (header_bytes requirement_kind (in_byte s) (in_byte m) n c)
+  headed_long = length-sets out 0 (header_bytes requirement_kind (in_byte s) (in_byte m) n c)
 
-  headed-front : take nodes_start headed ≡ header_bytes requirement_kind (in_byte s) (in_byte m) n c
+  headed_front : take nodes_start headed ≡ header_bytes requirement_kind (in_byte s) (in_byte m) n c
   unfolding headed header_bytes
-  headed-front = ap (take nodes_start) (sets-eq (header_bytes requirement_kind (in_byte s) (in_byte m) n c) out 0 (omega arith))
+  headed_front = ap (take nodes_start) (sets-eq (header_bytes requirement_kind (in_byte s) (in_byte m) n c) out 0 (omega arith))
 
-  headed-back : (k : ℕ) → nodes_start ≤ k → drop k headed ≡ drop k out
+  headed_back : (k : ℕ) → nodes_start ≤ k → drop k headed ≡ drop k out
   unfolding headed header_bytes
-  headed-back k h = drop_after out 0 (header_bytes requirement_kind (in_byte s) (in_byte m) n c) k (omega arith)
+  headed_back k h = drop_after out 0 (header_bytes requirement_kind (in_byte s) (in_byte m) n c) k (omega arith)
 
   noded : List ℕ
   noded = paste headed nodes_start nodes (node_size * n)
 
-  noded-front : take (nodes_end n) noded ≡ header_bytes requirement_kind (in_byte s) (in_byte m) n c ++ take (node_size * n) nodes
+  noded_front : take (nodes_end n) noded ≡ header_bytes requirement_kind (in_byte s) (in_byte m) n c ++ take (node_size * n) nodes
   unfolding noded
-  noded-front =
-      take-paste headed nodes_start nodes (node_size * n) (omega (arith, headed-long)) p
-      ∙ ap (λ (l : List ℕ). l ++ take (node_size * n) nodes) headed-front
+  noded_front =
+      take-paste headed nodes_start nodes (node_size * n) (omega (arith, headed_long)) p
+      ∙ ap (λ (l : List ℕ). l ++ take (node_size * n) nodes) headed_front
 
-  noded-back : drop (clauses_end n c) noded ≡ drop (clauses_end n c) out
+  noded_back : drop (clauses_end n c) noded ≡ drop (clauses_end n c) out
   unfolding noded
-  noded-back =
+  noded_back =
       sym (drop-drop (clause_size * c) (nodes_end n) noded)
-      ∙ ap (drop (clause_size * c)) (drop-paste headed nodes_start nodes (node_size * n) (omega (arith, headed-long)) p)
+      ∙ ap (drop (clause_size * c)) (drop-paste headed nodes_start nodes (node_size * n) (omega (arith, headed_long)) p)
       ∙ drop-drop (clause_size * c) (nodes_end n) headed
-      ∙ headed-back (clauses_end n c) (omega arith)
+      ∙ headed_back (clauses_end n c) (omega arith)
 
-  pub assembled-length : length (sheet_bytes s m (draft nodes n) (draft clauses c)) ≡ clauses_end n c
-  assembled-length = sheet-length s m (draft nodes n) (draft clauses c) (record { nodes_there = p; clauses_there = q })
+  pub assembled_length : length (sheet_bytes s m (draft nodes n) (draft clauses c)) ≡ clauses_end n c
+  assembled_length = sheet_length s m (draft nodes n) (draft clauses c) (record { nodes_there = p; clauses_there = q })
 
   pub assembled : paste (paste (put_header out requirement_kind (in_byte s) (in_byte m) n c) nodes_start nodes (node_size * n)) (nodes_end n) clauses (clause_size * c)
       ≡ front_of (sheet_bytes s m (draft nodes n) (draft clauses c)) out
   unfolding headed noded front_of sheet_bytes put_header
   assembled =
-      ap₂ (λ (l r : List ℕ). l ++ take (clause_size * c) clauses ++ r) noded-front noded-back
+      ap₂ (λ (l r : List ℕ). l ++ take (clause_size * c) clauses ++ r) noded_front noded_back
       ∙ ap (λ (l : List ℕ). l ++ drop (clauses_end n c) out) (append_assoc (header_bytes requirement_kind (in_byte s) (in_byte m) n c) (take (node_size * n) nodes) (take (clause_size * c) clauses))
-      ∙ ap (λ (k : ℕ). sheet_bytes s m (draft nodes n) (draft clauses c) ++ drop k out) (sym assembled-length)
+      ∙ ap (λ (k : ℕ). sheet_bytes s m (draft nodes n) (draft clauses c) ++ drop k out) (sym assembled_length)
 
 -- the bytes at the front, taken again
 pub front_taken : (bytes out : List ℕ) (n : ℕ) → n ≡ length bytes → take n (front_of bytes out) ≡ bytes

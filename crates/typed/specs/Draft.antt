@@ -7,7 +7,7 @@ use Rattle.stored.specs.declared.StoredClause.{StoredClause}
 use Rattle.stored.specs.Reach.{joint, name_mask}
 use Rattle.stored.specs.Written.{node_bytes, header_bytes}
 use Rattle.stored.specs.Layout.{requirement_kind, node_size, clause_size, clauses_end, most_nodes, most_clauses}
-use Rattle.grammar.specs.Tree.{OrP, oneP, orP, AndP, unitP, andP, UnitP, trueP, falseP, signalP, nameP, notP, bracketP, OrF, oneF, orF, AndF, chainF, andF, ChopF, unitF, chopF, UnitF, pointF, stretchF, wholeF, braceF, slenF, scountF, sdurF, drawF, atF, gapF, bracketF, starF, TypedPart, TypedClause, pref_c, anti_c, init_c, implies_c, follows_c, triggers_c, Line, assume_l, require_l, TypedSheet}
+use Rattle.grammar.specs.Tree.{OrP, one_p, or_p, AndP, unit_p, and_p, UnitP, trueP, falseP, signalP, nameP, not_p, bracket_p, OrF, one_f, or_f, AndF, chain_f, and_f, ChopF, unit_f, chop_f, UnitF, pointF, stretchF, wholeF, braceF, slen_f, scountF, sdurF, draw_f, at_f, gap_f, bracketF, starF, TypedPart, TypedClause, pref_c, anti_c, init_c, implies_c, follows_c, triggers_c, Line, assume_l, require_l, TypedSheet}
 use Rattle.typed.specs.Meaning.{parts_of}
 
 -- the bytes of an area, and how many entries it was given
@@ -43,21 +43,21 @@ unfoldable pub put_joined : ℕ → Draft → Draft → Draft
 put_joined op d e = put (node op 0 (last d) (last e)) e
 
 unfoldable mutual
-  pub putOrP : OrP → Draft → Draft
-  putOrP (oneP p) d = putAndP p d
-  putOrP (orP p q) d = let e = putOrP p d in put_joined 7 e (putAndP q e)
+  pub put_or_p : OrP → Draft → Draft
+  put_or_p (one_p p) d = put_and_p p d
+  put_or_p (or_p p q) d = let e = put_or_p p d in put_joined 7 e (put_and_p q e)
 
-  pub putAndP : AndP → Draft → Draft
-  putAndP (unitP p) d = putUnitP p d
-  putAndP (andP p q) d = let e = putAndP p d in put_joined 6 e (putUnitP q e)
+  pub put_and_p : AndP → Draft → Draft
+  put_and_p (unit_p p) d = put_unit_p p d
+  put_and_p (and_p p q) d = let e = put_and_p p d in put_joined 6 e (put_unit_p q e)
 
-  pub putUnitP : UnitP → Draft → Draft
-  putUnitP trueP d = put (node 2 0 0 0) d
-  putUnitP falseP d = put (node 1 0 0 0) d
-  putUnitP (signalP k) d = put (node 3 0 k 0) d
-  putUnitP (nameP u) d = put (node 4 0 u 0) d
-  putUnitP (notP p) d = put_over 5 0 0 (putUnitP p d)
-  putUnitP (bracketP p) d = putOrP p d
+  pub put_unit_p : UnitP → Draft → Draft
+  put_unit_p trueP d = put (node 2 0 0 0) d
+  put_unit_p falseP d = put (node 1 0 0 0) d
+  put_unit_p (signalP k) d = put (node 3 0 k 0) d
+  put_unit_p (nameP u) d = put (node 4 0 u 0) d
+  put_unit_p (not_p p) d = put_over 5 0 0 (put_unit_p p d)
+  put_unit_p (bracket_p p) d = put_or_p p d
 
 -- a comparison, as q has it
 unfoldable pub comparison_number : Comparison → ℕ
@@ -72,31 +72,31 @@ unfoldable pub in_byte : ℕ → ℕ
 in_byte v = cond (leb v 255) v 255
 
 unfoldable mutual
-  pub putOrF : OrF → Draft → Draft
-  putOrF (oneF f) d = putAndF f d
-  putOrF (orF f g) d = let e = putOrF f d in put_joined 22 e (putAndF g e)
+  pub put_or_f : OrF → Draft → Draft
+  put_or_f (one_f f) d = put_and_f f d
+  put_or_f (or_f f g) d = let e = put_or_f f d in put_joined 22 e (put_and_f g e)
 
-  pub putAndF : AndF → Draft → Draft
-  putAndF (chainF f) d = putChopF f d
-  putAndF (andF f g) d = let e = putAndF f d in put_joined 21 e (putChopF g e)
+  pub put_and_f : AndF → Draft → Draft
+  put_and_f (chain_f f) d = put_chop_f f d
+  put_and_f (and_f f g) d = let e = put_and_f f d in put_joined 21 e (put_chop_f g e)
 
-  pub putChopF : ChopF → Draft → Draft
-  putChopF (unitF f) d = putUnitF f d
-  putChopF (chopF f g) d = let e = putChopF f d in put_joined 20 e (putUnitF g e)
+  pub put_chop_f : ChopF → Draft → Draft
+  put_chop_f (unit_f f) d = put_unit_f f d
+  put_chop_f (chop_f f g) d = let e = put_chop_f f d in put_joined 20 e (put_unit_f g e)
 
-  pub putUnitF : UnitF → Draft → Draft
-  putUnitF (pointF p) d = put_over 16 0 0 (putOrP p d)
-  putUnitF (stretchF p) d = put_over 17 0 0 (putOrP p d)
-  putUnitF (wholeF p) d = put_over 18 0 0 (putOrP p d)
-  putUnitF (braceF p) d = put_over 19 0 0 (putOrP p d)
-  putUnitF (slenF c n) d = put (node 24 (comparison_number c) 0 n) d
-  putUnitF (scountF p c n) d = put_over 25 (comparison_number c) n (putOrP p d)
-  putUnitF (sdurF p c n) d = put_over 26 (comparison_number c) n (putOrP p d)
-  putUnitF (drawF q k) d = put (node 27 (in_byte q) k 0) d
-  putUnitF (atF u) d = put (node 28 0 u 0) d
-  putUnitF (gapF u v a b) d = put (node 29 (16 * u + v) a b) d
-  putUnitF (bracketF f) d = putOrF f d
-  putUnitF (starF f) d = put_over 23 0 0 (putOrF f d)
+  pub put_unit_f : UnitF → Draft → Draft
+  put_unit_f (pointF p) d = put_over 16 0 0 (put_or_p p d)
+  put_unit_f (stretchF p) d = put_over 17 0 0 (put_or_p p d)
+  put_unit_f (wholeF p) d = put_over 18 0 0 (put_or_p p d)
+  put_unit_f (braceF p) d = put_over 19 0 0 (put_or_p p d)
+  put_unit_f (slen_f c n) d = put (node 24 (comparison_number c) 0 n) d
+  put_unit_f (scountF p c n) d = put_over 25 (comparison_number c) n (put_or_p p d)
+  put_unit_f (sdurF p c n) d = put_over 26 (comparison_number c) n (put_or_p p d)
+  put_unit_f (draw_f q k) d = put (node 27 (in_byte q) k 0) d
+  put_unit_f (at_f u) d = put (node 28 0 u 0) d
+  put_unit_f (gap_f u v a b) d = put (node 29 (16 * u + v) a b) d
+  put_unit_f (bracketF f) d = put_or_f f d
+  put_unit_f (starF f) d = put_over 23 0 0 (put_or_f f d)
 
 -- ---- clauses
 unfoldable pub clause_bytes : StoredClause → List ℕ
@@ -125,7 +125,7 @@ mask_of [] = 0
 mask_of (u ∷ more) = joint (name_mask u) (mask_of more)
 
 unfoldable pub put_part : TypedPart → Draft → Draft
-put_part d x = putOrF d.formula x
+put_part d x = put_or_f d.formula x
 
 -- parts one after another, and the node that each ends in
 unfoldable pub put_parts : List TypedPart → Draft → Draft

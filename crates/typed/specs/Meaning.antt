@@ -5,59 +5,59 @@ use Rattle.semantics.specs.Formula.{Formula, point, stretch, whole, unit, chop, 
 use Rattle.semantics.specs.Placement.{Names}
 use Rattle.semantics.specs.Clause.{Part, ClauseType, pref, init, anti, implies, follows, triggers, Role, assumption, commitment, Clause}
 use Rattle.stored.specs.Tree.{symbol_of}
-use Rattle.grammar.specs.Tree.{OrP, oneP, orP, AndP, unitP, andP, UnitP, trueP, falseP, signalP, nameP, notP, bracketP, OrF, oneF, orF, AndF, chainF, andF, ChopF, unitF, chopF, UnitF, pointF, stretchF, wholeF, braceF, slenF, scountF, sdurF, drawF, atF, gapF, bracketF, starF, TypedPart, TypedClause, pref_c, anti_c, init_c, implies_c, follows_c, triggers_c, Line, assume_l, require_l, TypedSheet}
+use Rattle.grammar.specs.Tree.{OrP, one_p, or_p, AndP, unit_p, and_p, UnitP, trueP, falseP, signalP, nameP, not_p, bracket_p, OrF, one_f, or_f, AndF, chain_f, and_f, ChopF, unit_f, chop_f, UnitF, pointF, stretchF, wholeF, braceF, slen_f, scountF, sdurF, draw_f, at_f, gap_f, bracketF, starF, TypedPart, TypedClause, pref_c, anti_c, init_c, implies_c, follows_c, triggers_c, Line, assume_l, require_l, TypedSheet}
 use Rattle.grammar.specs.Spelled.{is_among}
 
 unfoldable mutual
-  pub meantOrP : OrP → Proposition
-  meantOrP (oneP p) = meantAndP p
-  meantOrP (orP p q) = either_of (meantOrP p) (meantAndP q)
+  pub meant_or_p : OrP → Proposition
+  meant_or_p (one_p p) = meant_and_p p
+  meant_or_p (or_p p q) = either_of (meant_or_p p) (meant_and_p q)
 
-  pub meantAndP : AndP → Proposition
-  meantAndP (unitP p) = meantUnitP p
-  meantAndP (andP p q) = both_of (meantAndP p) (meantUnitP q)
+  pub meant_and_p : AndP → Proposition
+  meant_and_p (unit_p p) = meant_unit_p p
+  meant_and_p (and_p p q) = both_of (meant_and_p p) (meant_unit_p q)
 
-  pub meantUnitP : UnitP → Proposition
-  meantUnitP trueP = always
-  meantUnitP falseP = never
-  meantUnitP (signalP k) = signal k
-  meantUnitP (nameP u) = name u
-  meantUnitP (notP p) = negated (meantUnitP p)
-  meantUnitP (bracketP p) = meantOrP p
+  pub meant_unit_p : UnitP → Proposition
+  meant_unit_p trueP = always
+  meant_unit_p falseP = never
+  meant_unit_p (signalP k) = signal k
+  meant_unit_p (nameP u) = name u
+  meant_unit_p (not_p p) = negated (meant_unit_p p)
+  meant_unit_p (bracket_p p) = meant_or_p p
 
 unfoldable mutual
-  pub meantOrF : OrF → Formula
-  meantOrF (oneF f) = meantAndF f
-  meantOrF (orF f g) = disjunction (meantOrF f) (meantAndF g)
+  pub meant_or_f : OrF → Formula
+  meant_or_f (one_f f) = meant_and_f f
+  meant_or_f (or_f f g) = disjunction (meant_or_f f) (meant_and_f g)
 
-  pub meantAndF : AndF → Formula
-  meantAndF (chainF f) = meantChopF f
-  meantAndF (andF f g) = conjunction (meantAndF f) (meantChopF g)
+  pub meant_and_f : AndF → Formula
+  meant_and_f (chain_f f) = meant_chop_f f
+  meant_and_f (and_f f g) = conjunction (meant_and_f f) (meant_chop_f g)
 
-  pub meantChopF : ChopF → Formula
-  meantChopF (unitF f) = meantUnitF f
-  meantChopF (chopF f g) = chop (meantChopF f) (meantUnitF g)
+  pub meant_chop_f : ChopF → Formula
+  meant_chop_f (unit_f f) = meant_unit_f f
+  meant_chop_f (chop_f f g) = chop (meant_chop_f f) (meant_unit_f g)
 
-  pub meantUnitF : UnitF → Formula
-  meantUnitF (pointF p) = point (meantOrP p)
-  meantUnitF (stretchF p) = stretch (meantOrP p)
-  meantUnitF (wholeF p) = whole (meantOrP p)
-  meantUnitF (braceF p) = unit (meantOrP p)
-  meantUnitF (slenF c n) = slen c n
-  meantUnitF (scountF p c n) = scount c (meantOrP p) n
-  meantUnitF (sdurF p c n) = sdur c (meantOrP p) n
-  meantUnitF (drawF q k) = drawn (symbol_of q) k
-  meantUnitF (atF u) = at u
-  meantUnitF (gapF u v a b) = gap u v a b
-  meantUnitF (bracketF f) = meantOrF f
-  meantUnitF (starF f) = star (meantOrF f)
+  pub meant_unit_f : UnitF → Formula
+  meant_unit_f (pointF p) = point (meant_or_p p)
+  meant_unit_f (stretchF p) = stretch (meant_or_p p)
+  meant_unit_f (wholeF p) = whole (meant_or_p p)
+  meant_unit_f (braceF p) = unit (meant_or_p p)
+  meant_unit_f (slen_f c n) = slen c n
+  meant_unit_f (scountF p c n) = scount c (meant_or_p p) n
+  meant_unit_f (sdurF p c n) = sdur c (meant_or_p p) n
+  meant_unit_f (draw_f q k) = drawn (symbol_of q) k
+  meant_unit_f (at_f u) = at u
+  meant_unit_f (gap_f u v a b) = gap u v a b
+  meant_unit_f (bracketF f) = meant_or_f f
+  meant_unit_f (starF f) = star (meant_or_f f)
 
 -- the set of the names that are listed
 unfoldable pub meant_names : List ℕ → Names
 meant_names names u = is_among u names
 
 unfoldable pub meant_part : TypedPart → Part
-meant_part d = record { formula = meantOrF d.formula; names = meant_names d.names }
+meant_part d = record { formula = meant_or_f d.formula; names = meant_names d.names }
 
 -- a clause's parts in the order D1, D2, D3, and its type
 unfoldable pub parts_of : TypedClause → List TypedPart

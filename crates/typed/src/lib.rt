@@ -1,2 +1,4 @@
 // Typed sheets: what a tree says, and the stored sheet that it is.
+#![tactic(auto)]
+
 pub mod draft;

@@ -4,7 +4,7 @@ use mathlib.Core.Path.{◌≡◌, refl, sym, ◌∙◌}
 use native.Mathlib.Omega.{arith}
 use lib.ListN.{length, drop}
 use Rattle.grammar.specs.Spelled.{is_among}
-use Rattle.classes.proofs.Listed.{among-here, among_later, among_none}
+use Rattle.classes.proofs.Listed.{among_here, among_later, among_none}
 use Rattle.classes.proofs.among.Statement.{statement}
 use Rattle.classes.proofs.among.Tie as tie
 
@@ -23,7 +23,7 @@ shared-slice-read-if1 c = omega arith
 returns : tie.Need-returns invariant-loop decreases-loop
 returns c =
     let at = c.before.before.before.loop in
-    sym (at.invariant ∙ among-here _ _ at.k (omega arith) c.if1.true)
+    sym (at.invariant ∙ among_here _ _ at.k (omega arith) c.if1.true)
 
 add-k : tie.Need-overflow-add-k invariant-loop decreases-loop
 add-k c = omega arith

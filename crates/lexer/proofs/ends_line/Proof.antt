@@ -8,7 +8,7 @@ use borrow.Author.Rules.{rules}
 use Rattle.grammar.specs.Token.{is_line_end}
 use Rattle.grammar.specs.Class.{line_end_class}
 use Rattle.grammar.specs.Spelled.{ends_line}
-use Rattle.lexer.proofs.Classes.{line-end-class}
+use Rattle.lexer.proofs.Classes.{line_end_class_lem}
 use Rattle.lexer.proofs.ends_line.Statement.{statement}
 use Rattle.lexer.proofs.ends_line.Tie as tie
 
@@ -36,7 +36,7 @@ class-of-requires c κs = c.before.before.class-table.ensures
 
 returns-2 : tie.Need-returns-2
 unfolding ends_line
-returns-2 c = ap (λ (k : ℕ). eqb k line_end_class) c.class_of.ensures ∙ sym (line-end-class _)
+returns-2 c = ap (λ (k : ℕ). eqb k line_end_class) c.class_of.ensures ∙ sym (line_end_class_lem _)
 
 pub ends-line-spec : {M : Type 1} → statement M
 ends-line-spec =

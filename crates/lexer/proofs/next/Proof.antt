@@ -3,8 +3,8 @@ use native.Mathlib.Omega.{arith}
 use borrow.Author.Rules.{rules}
 use Rattle.grammar.specs.Token.{is_digit}
 use Rattle.grammar.specs.Class.{digit_class}
-use Rattle.lexer.proofs.Classes.{digit-class, told, untold}
-use Rattle.lexer.proofs.Read.{after-blanks, end_read}
+use Rattle.lexer.proofs.Classes.{digit_class_lem, told, untold}
+use Rattle.lexer.proofs.Read.{after_blanks, end_read}
 use Rattle.lexer.proofs.next.Statement.{statement}
 use Rattle.lexer.proofs.next.Tie as tie
 
@@ -36,22 +36,22 @@ number-at-requires : tie.Need-number-at-requires
 number-at-requires c κs = (
   c.before.before.before.before.before.before.before.before.class-table.ensures,
   omega arith,
-  told is_digit digit_class digit-class _ _ c.before.before.class_of.ensures c.before.if2.true,
+  told is_digit digit_class digit_class_lem _ _ c.before.before.class_of.ensures c.before.if2.true,
 )
 
 returns-2 : tie.Need-returns-2
-returns-2 c = after-blanks _ _ _ c.before.before.before.before.before.before.before.skip-blanks.ensures _ c.number_at.ensures
+returns-2 c = after_blanks _ _ _ c.before.before.before.before.before.before.before.skip-blanks.ensures _ c.number_at.ensures
 
 spelling-at-requires : tie.Need-spelling-at-requires
 spelling-at-requires c κs = (
   omega arith,
   c.before.class_of.ensures,
   c.before.before.before.before.before.skip-blanks.ensures.filled (omega arith),
-  untold is_digit digit_class digit-class _ _ c.before.class_of.ensures c.if2.false,
+  untold is_digit digit_class digit_class_lem _ _ c.before.class_of.ensures c.if2.false,
 )
 
 returns-3 : tie.Need-returns-3
-returns-3 c = after-blanks _ _ _ c.before.before.before.before.before.before.skip-blanks.ensures _ c.spelling-at.ensures
+returns-3 c = after_blanks _ _ _ c.before.before.before.before.before.before.skip-blanks.ensures _ c.spelling-at.ensures
 
 pub next-spec : {M : Type 1} → statement M
 next-spec =

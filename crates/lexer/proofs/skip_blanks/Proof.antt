@@ -5,8 +5,8 @@ use native.Mathlib.Omega.{arith}
 use lib.ListN.{length, drop}
 use Rattle.grammar.specs.Token.{is_blank, tokens}
 use Rattle.grammar.specs.Class.{blank_class}
-use Rattle.lexer.proofs.Classes.{blank-class, told, untold}
-use Rattle.lexer.proofs.Tokens.{blank-at}
+use Rattle.lexer.proofs.Classes.{blank_class_lem, told, untold}
+use Rattle.lexer.proofs.Tokens.{blank_at}
 use Rattle.lexer.proofs.skip_blanks.Statement.{statement}
 use Rattle.lexer.proofs.skip_blanks.Tie as tie
 
@@ -34,7 +34,7 @@ returns c =
     record {
       same = at.invariant.1;
       onward = at.invariant.0;
-      filled = λ _. untold is_blank blank_class blank-class _ _ c.before.class_of.ensures c.if1.true;
+      filled = λ _. untold is_blank blank_class blank_class_lem _ _ c.before.class_of.ensures c.if1.true;
     }
 
 loop-less : tie.Need-loop-smaller invariant-loop decreases-loop
@@ -44,7 +44,7 @@ loop-again : tie.Need-loop-preserved invariant-loop decreases-loop
 loop-again c =
     let at = c.before.before.before.before.loop in (
       omega arith,
-      at.invariant.1 ∙ blank-at _ at.i (omega arith) (told is_blank blank_class blank-class _ _ c.before.class_of.ensures c.if1.false),
+      at.invariant.1 ∙ blank_at _ at.i (omega arith) (told is_blank blank_class blank_class_lem _ _ c.before.class_of.ensures c.if1.false),
     )
 
 returns-2 : tie.Need-returns-2 invariant-loop decreases-loop

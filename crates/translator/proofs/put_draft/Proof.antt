@@ -8,13 +8,13 @@ use Rattle.stored.specs.declared.SheetAnswer.{SheetAnswer}
 use Rattle.stored.specs.declared.Header.{Header}
 use Rattle.stored.proofs.Accepted.{Counts}
 use Rattle.plans.proofs.Steps.{steps}
-use Rattle.translator.proofs.Translating.{opened-sheet, header_is, run_drafted, empty-good, empty-count, empty-signals, empty-names, nodes-read, clauses-read, required_parts}
+use Rattle.translator.proofs.Translating.{opened_sheet, header_is, run_drafted, empty_good, empty_count, empty_signals, empty_names, nodes_read, clauses_read, required_parts}
 use Rattle.translator.proofs.put_draft.Statement.{statement}
 use Rattle.translator.proofs.put_draft.Tie as tie
 
 -- what is known of an accepted sheet
 known : (s : List ℕ) (h : Header) → sheet_answer s ≡ SheetAnswer.Accepted h → Counts h
-known s h accepted = subst Counts (header_is s h accepted) (opened-sheet s h accepted).in_range
+known s h accepted = subst Counts (header_is s h accepted) (opened_sheet s h accepted).in_range
 
 node-part-requires : tie.Need-node-part-requires
 node-part-requires c κs = c.before.before.requires.0
@@ -33,7 +33,7 @@ put-shared-requires c κs =
     let p = c.before.before.before.before.before.before.before.before.before.requires in
     let k = known _ _ p.0 in
     let e = c.before.before.before.put-header.ensures in
-    (empty-good _ _ _ _ p.1 e k.some_signals k.few_signals k.few_names, empty-count _ _ _ _ p.1 e, sym (empty-names _ _ _ _ p.1 e))
+    (empty_good _ _ _ _ p.1 e k.some_signals k.few_signals k.few_names, empty_count _ _ _ _ p.1 e, sym (empty_names _ _ _ _ p.1 e))
 
 put-requirement-requires : tie.Need-put-requirement-requires
 put-requirement-requires c κs =
@@ -41,13 +41,13 @@ put-requirement-requires c κs =
     let k = known _ _ p.0 in
     let e = c.before.before.before.before.before.before.before.put-header.ensures in
     let shared = c.before.before.before.put-shared.ensures in
-    let signals = shared.1.signals ∙ empty-signals _ _ _ _ p.1 e in
-    let names = shared.1.names ∙ empty-names _ _ _ _ p.1 e in
+    let signals = shared.1.signals ∙ empty_signals _ _ _ _ p.1 e in
+    let names = shared.1.names ∙ empty_names _ _ _ _ p.1 e in
     let at = c.before.before.before.before.before.before.before.before.before.before.node-part.ensures in
     let after = c.before.before.before.before.before.before.before.before.before.clause-part.ensures in
     let head = header_is _ _ p.0 in
-    let opened = opened-sheet _ _ p.0 in
-    (shared.0, omega (arith, shared.1.few, empty-count _ _ _ _ p.1 e, k.few_names), nodes-read _ _ head opened _ signals names _ at, clauses-read _ _ head opened _ signals names _ _ at after _ (omega arith))
+    let opened = opened_sheet _ _ p.0 in
+    (shared.0, omega (arith, shared.1.few, empty_count _ _ _ _ p.1 e, k.few_names), nodes_read _ _ head opened _ signals names _ at, clauses_read _ _ head opened _ signals names _ _ at after _ (omega arith))
 
 same_length : tie.Need-same-length
 same_length c = (steps c.before.before.before.before.before.before.put-shared.ensures.1 c.before.before.put-requirement.ensures.0.step).size ∙ c.before.before.before.before.before.before.before.before.before.before.put-header.auto.0

@@ -5,7 +5,7 @@ use native.Mathlib.Omega.{arith}
 use Rattle.stored.specs.Sheet.{sheet_answer}
 use Rattle.stored.specs.declared.SheetAnswer.{SheetAnswer}
 use Rattle.stored.proofs.Accepted.{Counts}
-use Rattle.translator.proofs.Translating.{opened-sheet, header_is, sheet_refused, output-refused, drafted, run-translated}
+use Rattle.translator.proofs.Translating.{opened_sheet, header_is, sheet_refused, output_refused, drafted, run_translated}
 use Rattle.translator.proofs.translate.Statement.{statement}
 use Rattle.translator.proofs.translate.Tie as tie
 
@@ -28,7 +28,7 @@ returns : tie.Need-returns
 returns c = rw c.sheet-number.ensures (sheet_refused _ _ _ _ c.before.before.before.read-sheet.ensures c.before.enum_told.given.1)
 
 returns-2 : tie.Need-returns-2
-returns-2 c = output-refused _ _ (sym c.before.before.before.before.read-sheet.ensures ∙ c.before.before.answer.given.1) _ c.if1.true
+returns-2 c = output_refused _ _ (sym c.before.before.before.before.read-sheet.ensures ∙ c.before.before.answer.given.1) _ c.if1.true
 
 slice-aggregate-put-draft : tie.Need-slice-aggregate-put-draft
 slice-aggregate-put-draft c = search rules
@@ -39,7 +39,7 @@ put-draft-requires c κs = (accepted c.before, omega arith)
 put-header-requires : tie.Need-put-header-requires
 put-header-requires c κs =
     let told = c.before.before.before.before in
-    let k = subst Counts (header_is _ _ (accepted told)) (opened-sheet _ _ (accepted told)).in_range in
+    let k = subst Counts (header_is _ _ (accepted told)) (opened_sheet _ _ (accepted told)).in_range in
     (omega (arith, told.if1.false), omega arith, omega (arith, k.few_signals), omega (arith, k.few_names), omega arith, omega arith)
 
 slice-aggregate-put-pruned : tie.Need-slice-aggregate-put-pruned
@@ -62,7 +62,7 @@ same_length c = c.before.before.before.put-pruned.ensures.step.size ∙ c.before
 returns-3 : tie.Need-returns-3
 returns-3 c =
     let told = c.before.before.before.before.before.before.before.before.before.before.before.before.before in
-    run-translated _ (accepted told) told.if1.false c.before.before.before.before.before.before.before.before.before.before.before.put-draft.ensures c.before.before.before.before.before.before.before.before.put-header.ensures c.before.before.before.put-pruned.ensures c.nodes-end.ensures
+    run_translated _ (accepted told) told.if1.false c.before.before.before.before.before.before.before.before.before.before.before.put-draft.ensures c.before.before.before.before.before.before.before.before.put-header.ensures c.before.before.before.put-pruned.ensures c.nodes-end.ensures
 
 pub translate-spec : {M : Type 1} → statement M
 translate-spec =

@@ -7,7 +7,7 @@ use borrow.Author.Rules.{rules}
 use Rattle.stored.specs.Layout.{most_cycles}
 use Rattle.board.specs.Board.{Sized}
 use Rattle.board.proofs.Admission.{takes, sheet_part}
-use Rattle.board.proofs.Feeds.{cycles-part, took}
+use Rattle.board.proofs.Feeds.{cycles_part, took}
 use Rattle.board.proofs.Board.take.Statement.{statement}
 use Rattle.board.proofs.Board.take.Tie as tie
 
@@ -65,7 +65,7 @@ returns c =
     let checked = c.before.before.before.check-cycles in
     let sized : Sized a.self = record { sheet_long = search rules; cycles_long = search rules } in
     took a.self a.cycle a.words.now c.before.before.before.before.before.before.before.before.before.before.before.before.before.before.requires.0 sized checked.result c.shown.result a.s _ _ _ c.before.before.before.before.before.before.before.before.before.before.before.before.before.before.requires.1
-    (sheet_part a.self _ c.before.before.before.before.before.before.before.before.before.split.ensures.0) (cycles-part a.self a.cycle a.words.now c.before.before.before.before.before.before.before.before.before.before.before.before.before.before.requires.0 sized)
+    (sheet_part a.self _ c.before.before.before.before.before.before.before.before.before.split.ensures.0) (cycles_part a.self a.cycle a.words.now c.before.before.before.before.before.before.before.before.before.before.before.before.before.before.requires.0 sized)
     checked.ensures.0 checked.ensures.1 c.shown.ensures
 
 pub take_spec : {M : Type 1} → statement M

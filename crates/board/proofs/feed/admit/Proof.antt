@@ -3,7 +3,7 @@ use mathlib.Core.Path.{sym, ◌∙◌, ap}
 use borrow.Author.Rules.{rules}
 use borrow.Author.Tests.{not-true, not-false}
 use Rattle.stored.specs.Sheet.{sheet_answer}
-use Rattle.board.proofs.Admission.{sheet_part, admit-sheet, admit-held, admit-words, admit-signals, admit-full, admitted}
+use Rattle.board.proofs.Admission.{sheet_part, admit_sheet, admit_held, admit_words, admit_signals, admit_full, admitted}
 use Rattle.board.proofs.feed.admit.Statement.{statement}
 use Rattle.board.proofs.feed.admit.Tie as tie
 
@@ -38,7 +38,7 @@ returns : tie.Need-returns
 returns c =
     let a = c.before.before.before.before.before.before.before.before.before.before.before.args in
     let read = c.before.before.before.read-sheet.ensures ∙ ap sheet_answer (sheet_part a.board _ c.before.before.before.before.before.before.split.ensures.0) in
-    admit-sheet a.board a.cycle a.words.now _ _ _ read c.before.enum_told.given.1 c.sheet-number.ensures
+    admit_sheet a.board a.cycle a.words.now _ _ _ read c.before.enum_told.given.1 c.sheet-number.ensures
 
 slice-aggregate-are-held : tie.Need-slice-aggregate-are-held
 slice-aggregate-are-held c = search rules
@@ -52,7 +52,7 @@ returns-2 c =
     let read = c.before.before.before.before.before.before.read-sheet.ensures ∙ ap sheet_answer (sheet_part a.board _ c.before.before.before.before.before.before.before.before.before.split.ensures.0) in
     let accepted = sym read ∙ c.before.before.before.before.sheet-answer.given.1 in
     let held = c.before.are-held in
-    admit-held a.board a.cycle a.words.now _ accepted held.result held.ensures (not-true held.result c.if1.true)
+    admit_held a.board a.cycle a.words.now _ accepted held.result held.ensures (not-true held.result c.if1.true)
 
 returns-3 : tie.Need-returns-3
 returns-3 c =
@@ -60,7 +60,7 @@ returns-3 c =
     let read = c.before.before.before.before.before.before.before.read-sheet.ensures ∙ ap sheet_answer (sheet_part a.board _ c.before.before.before.before.before.before.before.before.before.before.split.ensures.0) in
     let accepted = sym read ∙ c.before.before.before.before.before.sheet-answer.given.1 in
     let held = c.before.before.are-held in
-    admit-words a.board a.cycle a.words.now _ accepted held.result held.ensures (not-false held.result c.before.if1.false) c.if2.true
+    admit_words a.board a.cycle a.words.now _ accepted held.result held.ensures (not-false held.result c.before.if1.false) c.if2.true
 
 is-below-requires : tie.Need-is-below-requires
 is-below-requires c κs = search rules
@@ -72,7 +72,7 @@ returns-4 c =
     let accepted = sym read ∙ c.before.before.before.before.before.before.before.sheet-answer.given.1 in
     let held = c.before.before.before.before.are-held in
     let fits = c.before.is_below in
-    admit-signals a.board a.cycle a.words.now _ accepted held.result held.ensures (not-false held.result c.before.before.before.if1.false) c.before.before.if2.false fits.result fits.ensures (not-true fits.result c.if3.true)
+    admit_signals a.board a.cycle a.words.now _ accepted held.result held.ensures (not-false held.result c.before.before.before.if1.false) c.before.before.if2.false fits.result fits.ensures (not-true fits.result c.if3.true)
 
 returns-5 : tie.Need-returns-5
 returns-5 c =
@@ -81,7 +81,7 @@ returns-5 c =
     let accepted = sym read ∙ c.before.before.before.before.before.before.before.before.sheet-answer.given.1 in
     let held = c.before.before.before.before.before.are-held in
     let fits = c.before.before.is_below in
-    admit-full a.board a.cycle a.words.now _ accepted held.result held.ensures (not-false held.result c.before.before.before.before.if1.false) c.before.before.before.if2.false fits.result fits.ensures (not-false fits.result c.before.if3.false) c.if4.true
+    admit_full a.board a.cycle a.words.now _ accepted held.result held.ensures (not-false held.result c.before.before.before.before.if1.false) c.before.before.before.if2.false fits.result fits.ensures (not-false fits.result c.before.if3.false) c.if4.true
 
 returns-6 : tie.Need-returns-6
 returns-6 c =

@@ -1,8 +1,8 @@
 -- `checker::check::check` meets its contract.
 use borrow.Author.Rules.{rules}
 use mathlib.Core.Path.{sym, ◌∙◌}
-use Rattle.checker.proofs.Opened.{trace-fits, few_signals, few_cycles, given-accepted}
-use Rattle.checker.proofs.Checked.{check-sheet, check-trace, check_words, check-verdict, clauses_sound}
+use Rattle.checker.proofs.Opened.{trace_fits, few_signals, few_cycles, given_accepted}
+use Rattle.checker.proofs.Checked.{check_sheet, check_trace, check_words, check_verdict, clauses_sound}
 use Rattle.checker.proofs.check.check.Statement.{statement}
 use Rattle.checker.proofs.check.check.Tie as tie
 
@@ -21,7 +21,7 @@ sheet-number-requires c κs = search rules
 returns : tie.Need-returns
 returns c =
     let a = c.before.before.before.before.before.before.before.args in
-    check-sheet a.sheet.now a.trace.now a.words.now _ _ _ c.before.before.before.read-sheet.ensures c.before.enum_told.given.1 c.sheet-number.ensures
+    check_sheet a.sheet.now a.trace.now a.words.now _ _ _ c.before.before.before.read-sheet.ensures c.before.enum_told.given.1 c.sheet-number.ensures
 
 read-trace-requires : tie.Need-read-trace-requires
 read-trace-requires c κs = search rules
@@ -39,7 +39,7 @@ returns-2 : tie.Need-returns-2
 returns-2 c =
     let a = c.before.before.before.before.before.before.before.before.before.before.before.args in
     let accepted = sym c.before.before.before.before.before.before.before.read-sheet.ensures ∙ c.before.before.before.before.before.sheet-answer.given.1 in
-    check-trace a.sheet.now a.trace.now a.words.now _ accepted _ _ _ c.before.before.before.read-trace.ensures c.before.enum-told2.given.1 c.trace-number.ensures
+    check_trace a.sheet.now a.trace.now a.words.now _ accepted _ _ _ c.before.before.before.read-trace.ensures c.before.enum-told2.given.1 c.trace-number.ensures
 
 returns-3 : tie.Need-returns-3
 returns-3 c =
@@ -58,7 +58,7 @@ columns-requires c κs =
     let a = c.before.before.before.before.before.before.before.before.before.before.before.before.before.before.args in
     let accepted = sym c.before.before.before.before.before.before.before.before.before.before.read-sheet.ensures ∙ c.before.before.before.before.before.before.before.before.sheet-answer.given.1 in
     let cycled = sym c.before.before.before.before.before.before.read-trace.ensures ∙ c.before.before.before.before.trace-answer.given.1 in
-    (few_signals a.sheet.now a.trace.now _ _ accepted cycled, few_cycles a.sheet.now a.trace.now _ _ accepted cycled, trace-fits a.sheet.now a.trace.now _ _ accepted cycled)
+    (few_signals a.sheet.now a.trace.now _ _ accepted cycled, few_cycles a.sheet.now a.trace.now _ _ accepted cycled, trace_fits a.sheet.now a.trace.now _ _ accepted cycled)
 
 slice-aggregate-verdict-of : tie.Need-slice-aggregate-verdict-of
 slice-aggregate-verdict-of c = search rules
@@ -68,7 +68,7 @@ verdict-of-requires c κs =
     let a = c.before.before.before.before.before.before.before.before.before.before.before.before.before.before.before.before.before.args in
     let accepted = sym c.before.before.before.before.before.before.before.before.before.before.before.before.before.read-sheet.ensures ∙ c.before.before.before.before.before.before.before.before.before.before.before.sheet-answer.given.1 in
     let node = c.before.before.before.before.node-part.ensures in (
-      given-accepted a.sheet.now a.trace.now _ _ accepted (sym c.before.before.before.before.before.before.before.before.before.read-trace.ensures ∙ c.before.before.before.before.before.before.before.trace-answer.given.1) _ c.before.before.columns.ensures _ a.words.now c.before.before.before.before.before.if1.false node,
+      given_accepted a.sheet.now a.trace.now _ _ accepted (sym c.before.before.before.before.before.before.before.before.before.read-trace.ensures ∙ c.before.before.before.before.before.before.before.trace-answer.given.1) _ c.before.before.columns.ensures _ a.words.now c.before.before.before.before.before.if1.false node,
       clauses_sound a.sheet.now _ _ _ accepted node c.before.before.before.clause-part.ensures,
     )
 
@@ -80,7 +80,7 @@ returns-4 c =
     let a = c.before.before.before.before.before.before.before.before.before.before.before.before.before.before.before.before.before.before.before.before.before.args in
     let accepted = sym c.before.before.before.before.before.before.before.before.before.before.before.before.before.before.before.before.before.read-sheet.ensures ∙ c.before.before.before.before.before.before.before.before.before.before.before.before.before.before.before.sheet-answer.given.1 in
     let r = c.before.before.before.verdict-of.ensures in
-    check-verdict a.sheet.now a.trace.now a.words.now _ accepted _ (sym c.before.before.before.before.before.before.before.before.before.before.before.before.before.read-trace.ensures ∙ c.before.before.before.before.before.before.before.before.before.before.before.trace-answer.given.1) _ _ _ _ _ c.before.before.before.before.before.before.before.before.before.if1.false c.before.before.before.before.before.before.before.before.node-part.ensures c.before.before.before.before.before.before.before.clause-part.ensures c.before.before.before.before.before.before.columns.ensures r.0 r.1
+    check_verdict a.sheet.now a.trace.now a.words.now _ accepted _ (sym c.before.before.before.before.before.before.before.before.before.before.before.before.before.read-trace.ensures ∙ c.before.before.before.before.before.before.before.before.before.before.before.trace-answer.given.1) _ _ _ _ _ c.before.before.before.before.before.before.before.before.before.if1.false c.before.before.before.before.before.before.before.before.node-part.ensures c.before.before.before.before.before.before.before.clause-part.ensures c.before.before.before.before.before.before.columns.ensures r.0 r.1
 
 pub check-spec : {M : Type 1} → statement M
 check-spec =

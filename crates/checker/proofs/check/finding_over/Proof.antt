@@ -6,12 +6,12 @@ use Prim.Native.Nat.{ℕ}
 use Rattle.semantics.specs.Clause.{Clause}
 use Rattle.stored.specs.Clause.{role_of}
 use Rattle.traces.specs.Columns.{trace_of}
-use Rattle.places.proofs.Walks.{laid-own}
+use Rattle.places.proofs.Walks.{laid_own}
 use Rattle.checker.specs.declared.check.Finding.TheVariants.{Broken}
 use Rattle.checker.specs.declared.failing.Failing.{Failing}
 use Rattle.checker.specs.Clauses.{FailingIs, clause_at}
-use Rattle.checker.proofs.Clauses.{short-trace}
-use Rattle.checker.proofs.Verdicts.{finding-excused, finding-broken, finding-holds, failing_again}
+use Rattle.checker.proofs.Clauses.{short_trace}
+use Rattle.checker.proofs.Verdicts.{finding_excused, finding_broken, finding_holds, failing_again}
 use Rattle.checker.proofs.check.finding_over.Statement.{statement}
 use Rattle.checker.proofs.check.finding_over.Tie as tie
 
@@ -30,7 +30,7 @@ first-failing-requires-2 : tie.Need-first-failing-requires-2
 first-failing-requires-2 c κs =
     let q = c.before.before.before.before.before.before.before.before.before.before.before.before.before.before.before.before.before.before.before.before.before.requires in
     let r = c.before.before.before.before.before.before.before.before.before.before.before.first-failing.ensures in
-    (laid-own r.0, (omega arith, q.1.0, r.1.0))
+    (laid_own r.0, (omega arith, q.1.0, r.1.0))
 
 enum-known-commitment : tie.Need-enum-known-commitment
 enum-known-commitment c = search rules
@@ -56,7 +56,7 @@ returns c =
     let a = c.before.before.before.before.before.before.before.before.before.before.before.before.before.before.before.before.before.before.before.args in
     let f : ℕ → Clause = clause_at a.nodes.now a.clauses.now in
     let σ = trace_of a.sizes.cycles a.columns.now in
-    finding-excused f a.sizes.clauses σ _ _ (subst (λ (x : Failing). FailingIs (role_of 0) f a.sizes.clauses σ x) c.before.assumption.given.1 c.before.before.before.before.before.before.before.before.before.first-failing.ensures.1.1)
+    finding_excused f a.sizes.clauses σ _ _ (subst (λ (x : Failing). FailingIs (role_of 0) f a.sizes.clauses σ x) c.before.assumption.given.1 c.before.before.before.before.before.before.before.before.before.first-failing.ensures.1.1)
 
 same-length-4 : tie.Need-same-length-4
 same-length-4 c = c.before.before.before.before.before.before.before.before.before.before.first-failing2.auto.1.1.1.1.1.0 ∙ c.before.before.before.before.before.before.before.before.before.before.before.before.before.before.before.before.before.before.before.before.before.before.first-failing.auto.1.1.1.1.1.0
@@ -76,7 +76,7 @@ returns-2 c =
     let r = c.before.before.before.before.before.before.before.before.before.before.before.before.before.before.before.before.before.before.before.before.before.before.first-failing.ensures in
     let w = c.before.before.before.before.before.before.before.before.before.before.first-failing2.ensures in
     ap Broken c.place_of.ensures
-    ∙ finding-broken f a.sizes.clauses σ _ _ (short-trace c.before.before.before.before.before.before.before.before.before.before.before.before.before.before.before.before.before.before.before.before.before.before.before.before.before.before.before.before.before.before.before.before.requires.0) (subst (λ (x : Failing). FailingIs (role_of 0) f a.sizes.clauses σ x) c.before.before.before.before.before.before.before.before.before.before.before.before.before.before.enum_told.given.1 r.1.1)
+    ∙ finding_broken f a.sizes.clauses σ _ _ (short_trace c.before.before.before.before.before.before.before.before.before.before.before.before.before.before.before.before.before.before.before.before.before.before.before.before.before.before.before.before.before.before.before.before.requires.0) (subst (λ (x : Failing). FailingIs (role_of 0) f a.sizes.clauses σ x) c.before.before.before.before.before.before.before.before.before.before.before.before.before.before.enum_told.given.1 r.1.1)
     (failing_again (role_of 1) f a.sizes.clauses r.0 c.before.before.commitment.given.1 w.1.1)
 
 same-length-7 : tie.Need-same-length-7
@@ -96,7 +96,7 @@ returns-3 c =
     let σ = trace_of a.sizes.cycles a.columns.now in
     let r = c.before.before.before.before.before.before.before.before.before.before.before.before.before.before.before.before.before.before.before.before.first-failing.ensures in
     let w = c.before.before.before.before.before.before.before.before.first-failing2.ensures in
-    finding-holds f a.sizes.clauses σ (subst (λ (x : Failing). FailingIs (role_of 0) f a.sizes.clauses σ x) c.before.before.before.before.before.before.before.before.before.before.before.before.enum_told.given.1 r.1.1)
+    finding_holds f a.sizes.clauses σ (subst (λ (x : Failing). FailingIs (role_of 0) f a.sizes.clauses σ x) c.before.before.before.before.before.before.before.before.before.before.before.before.enum_told.given.1 r.1.1)
     (failing_again (role_of 1) f a.sizes.clauses r.0 c.enum-told2.given.1 w.1.1)
 
 pub finding-over-spec : {M : Type 1} → statement M

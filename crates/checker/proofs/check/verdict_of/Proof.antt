@@ -4,7 +4,7 @@ use mathlib.Core.Path.{refl, ap, ◌∙◌}
 use native.Mathlib.Omega.{arith}
 use Prim.Native.Nat.{ℕ}
 use lib.ListN.{replicate}
-use Rattle.places.proofs.Walks.{laid-own}
+use Rattle.places.proofs.Walks.{laid_own}
 use Rattle.checker.proofs.Clauses.{all_first, first_laid, verdict_again}
 use Rattle.checker.proofs.check.verdict_of.Statement.{statement}
 use Rattle.checker.proofs.check.verdict_of.Tie as tie
@@ -26,7 +26,7 @@ failing-advice-requires c κs =
     let lay = c.before.before.before.before.before.before.before.before in
     let reach = lay.before.before.before in
     let p = reach.before.before.before.before.before.requires in
-    (laid-own (first_laid p.0 reach.reach-table.ensures lay.lay-first.ensures.0 lay.lay-first.ensures.1 lay.lay-first.auto.1.1.1.1.1.0), (p.1, refl))
+    (laid_own (first_laid p.0 reach.reach-table.ensures lay.lay-first.ensures.0 lay.lay-first.ensures.1 lay.lay-first.auto.1.1.1.1.1.0), (p.1, refl))
 
 slice-aggregate-finding-over : tie.Need-slice-aggregate-finding-over
 slice-aggregate-finding-over c = search rules
@@ -38,7 +38,7 @@ finding-over-requires : tie.Need-finding-over-requires
 finding-over-requires c κs =
     let advised = c.before.before.before.before.before.before.before.before.before in
     let p = advised.before.before.before.before.before.before.before.before.before.before.before.before.before.before.before.before.before.requires in
-    (laid-own advised.failing-advice.ensures.0, (p.1, advised.failing-advice.ensures.1.0))
+    (laid_own advised.failing-advice.ensures.0, (p.1, advised.failing-advice.ensures.1.0))
 
 clear-requires : tie.Need-clear-requires
 clear-requires c κs = search rules

@@ -2,7 +2,7 @@
 use borrow.Author.Rules.{rules}
 use mathlib.Core.Path.{refl}
 use native.Mathlib.Omega.{arith}
-use Rattle.checker.proofs.Clauses.{clause-walkable, clause-least}
+use Rattle.checker.proofs.Clauses.{clause_walkable, clause_least}
 use Rattle.checker.proofs.failing.clause_place.Statement.{statement}
 use Rattle.checker.proofs.failing.clause_place.Tie as tie
 
@@ -12,7 +12,7 @@ task-of-requires c κs = omega (arith, c.before.before.before.before.before.requ
 walk-requires : tie.Need-walk-requires
 walk-requires c κs =
     let p = c.before.before.before.before.before.before.before.before.before.requires in
-    (clause-walkable p.0 c.before.before.before.before.before.before.before.before.before.args.d _ c.before.before.before.task-of.ensures p.1.0, p.1.1)
+    (clause_walkable p.0 c.before.before.before.before.before.before.before.before.before.args.d _ c.before.before.before.task-of.ensures p.1.0, p.1.1)
 
 same_length : tie.Need-same-length
 same_length c = search rules
@@ -27,7 +27,7 @@ returns : tie.Need-returns
 returns c =
     let p = c.before.before.before.before.before.before.before.before.before.before.before.before.before.before.before.before.requires in
     let r = c.before.before.before.before.before.before.walk.ensures in
-    (r.0, (r.1.0, clause-least p.0 c.before.before.before.before.before.before.before.before.before.before.before.before.before.before.before.before.args.d _ c.before.before.before.before.before.before.before.before.before.before.task-of.ensures p.1.0 _ (r.1.1.places refl)))
+    (r.0, (r.1.0, clause_least p.0 c.before.before.before.before.before.before.before.before.before.before.before.before.before.before.before.before.args.d _ c.before.before.before.before.before.before.before.before.before.before.task-of.ensures p.1.0 _ (r.1.1.places refl)))
 
 pub clause-place-spec : {M : Type 1} → statement M
 clause-place-spec =

@@ -11,7 +11,7 @@ use Rattle.rows.proofs.Rows.{word_unset}
 use Rattle.stored.specs.Clause.{role_of}
 use Rattle.traces.specs.Columns.{trace_of}
 use Rattle.places.specs.Laid.{Laid}
-use Rattle.places.proofs.Walks.{laid-own, relaid}
+use Rattle.places.proofs.Walks.{laid_own, relaid}
 use Rattle.checker.specs.Clauses.{clause_at}
 use Rattle.checker.proofs.Verdicts.{place_at, advised, advice_word, advice_set}
 use Rattle.checker.proofs.failing.failing_advice.Statement.{statement}
@@ -38,7 +38,7 @@ role-place-requires c κs =
     let q = c.before.before.before.before.before.before.before.before.before.before.before.before.requires in
     let l = c.before.before.before.before.before.loop in
     let sound = q.1.0.sound l.number c.before.before.before.before.loop-test.true in
-    (laid-own l.invariant.0, (omega arith, rw c.before.before.before.stored_at.ensures sound, l.invariant.3))
+    (laid_own l.invariant.0, (omega arith, rw c.before.before.before.stored_at.ensures sound, l.invariant.3))
 
 shl-advice : tie.Need-overflow-shl-advice invariant-loop decreases-loop
 shl-advice c = omega (arith, c.before.before.before.before.before.before.before.before.before.before.before.before.before.before.before.before.before.before.before.before.requires.1.0.few, c.before.before.before.before.before.before.before.before.before.before.before.before.loop-test.true)

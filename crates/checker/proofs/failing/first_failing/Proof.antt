@@ -9,7 +9,7 @@ use Rattle.semantics.specs.Verdict.{fails_as}
 use Rattle.stored.specs.Clause.{role_of}
 use Rattle.traces.specs.Columns.{trace_of}
 use Rattle.places.specs.Laid.{Laid}
-use Rattle.places.proofs.Walks.{laid-own, relaid}
+use Rattle.places.proofs.Walks.{laid_own, relaid}
 use Rattle.checker.specs.Clauses.{clause_at}
 use Rattle.checker.proofs.Verdicts.{one_more, place_at}
 use Rattle.checker.proofs.failing.first_failing.Statement.{statement}
@@ -35,7 +35,7 @@ role-place-requires c κs =
     let q = c.before.before.before.before.before.before.before.before.before.before.before.before.requires in
     let l = c.before.before.before.before.before.loop in
     let sound = q.1.1.sound l.k c.before.before.before.before.loop-test.true in
-    (laid-own l.invariant.0, (q.1.0, rw c.before.before.before.stored_at.ensures sound, l.invariant.3))
+    (laid_own l.invariant.0, (q.1.0, rw c.before.before.before.stored_at.ensures sound, l.invariant.3))
 
 same_length : tie.Need-same-length invariant-loop decreases-loop
 same_length c = c.before.before.before.before.before.before.before.role-place.auto.1.1.1.1.1.0 ∙ c.before.before.before.before.before.before.before.before.before.before.before.before.before.loop.invariant.1

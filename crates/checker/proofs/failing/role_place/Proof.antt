@@ -3,8 +3,8 @@ use borrow.Author.Rules.{rules}
 use native.Mathlib.Omega.{arith}
 use Rattle.stored.specs.Node.{node_at}
 use Rattle.traces.specs.Columns.{trace_of}
-use Rattle.checker.proofs.Clauses.{short-trace}
-use Rattle.checker.proofs.Verdicts.{other-role, no_place, some-place}
+use Rattle.checker.proofs.Clauses.{short_trace}
+use Rattle.checker.proofs.Verdicts.{other_role, no_place, some_place}
 use Rattle.checker.proofs.failing.role_place.Statement.{statement}
 use Rattle.checker.proofs.failing.role_place.Tie as tie
 
@@ -16,7 +16,7 @@ returns c =
       (
         q.1.2,
         record {
-          none = λ h. other-role (node_at a.nodes.now) a.d a.role q.1.0 q.1.1.role_most (trace_of a.sizes.cycles a.columns.now) c.if1.true;
+          none = λ h. other_role (node_at a.nodes.now) a.d a.role q.1.0 q.1.1.role_most (trace_of a.sizes.cycles a.columns.now) c.if1.true;
           some = λ h. absurd (omega arith);
           least = λ h. absurd (omega arith);
         },
@@ -43,13 +43,13 @@ returns-2 c =
     let a = c.before.before.before.before.before.before.before.before.before.before.before.before.before.before.before.before.before.args in
     let r = c.before.before.before.before.before.before.clause-place in
     let σ = trace_of a.sizes.cycles a.columns.now in
-    let short = short-trace q.0 in (
+    let short = short_trace q.0 in (
       r.ensures.0,
       (
         r.ensures.1.0,
         record {
           none = no_place (node_at a.nodes.now) a.d a.role q.1.0 q.1.1.role_most σ short r.result r.ensures.1.1;
-          some = some-place (node_at a.nodes.now) a.d a.role q.1.0 q.1.1.role_most σ short r.result r.ensures.1.1 c.before.before.before.before.before.before.before.before.before.before.if1.false;
+          some = some_place (node_at a.nodes.now) a.d a.role q.1.0 q.1.1.role_most σ short r.result r.ensures.1.1 c.before.before.before.before.before.before.before.before.before.before.if1.false;
           least = λ h. r.ensures.1.1;
         },
       ),

@@ -5,7 +5,7 @@ use native.Mathlib.Omega.{arith}
 use Prim.Native.Nat.{ℕ, ◌-◌, ◌≤◌}
 use lib.ListN.{length, get_or, length-set}
 use Rattle.stored.specs.Tree.{earlier}
-use Rattle.stored.proofs.Entries.{entries_none, entries_next, entries-all}
+use Rattle.stored.proofs.Entries.{entries_none, entries_next, entries_all}
 use Rattle.tables.specs.Table.{row_at}
 use Rattle.checker.proofs.table.copy_rows.Statement.{statement}
 use Rattle.checker.proofs.table.copy_rows.Tie as tie
@@ -45,7 +45,7 @@ returns c =
     let a = c.before.before.before.args in
     let l = c.before.loop in
     let end : l.b ≡ a.n = omega arith in
-    entries-all _ 64 _ _ l.invariant.1 (λ k. l.invariant.2 k ∙ ap (λ (j : ℕ). earlier j 0 (row_at a.words.now a.i) k) end)
+    entries_all _ 64 _ _ l.invariant.1 (λ k. l.invariant.2 k ∙ ap (λ (j : ℕ). earlier j 0 (row_at a.words.now a.i) k) end)
 
 pub copy-rows-spec : {M : Type 1} → statement M
 copy-rows-spec =

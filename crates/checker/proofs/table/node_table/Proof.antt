@@ -11,7 +11,7 @@ use Rattle.traces.specs.Columns.{trace_of}
 use Rattle.stored.proofs.Tree.{sort_below_lem}
 use Rattle.tables.specs.Table.{standing}
 use Rattle.checker.specs.Table.{placement_of, table_of, node_refusal}
-use Rattle.checker.proofs.Refusals.{answers_number, answers_rows, node-16, node-17, node-right, names_inside}
+use Rattle.checker.proofs.Refusals.{answers_number, answers_rows, node_16, node_17, node_right_lem, names_inside}
 use Rattle.checker.proofs.table.node_table.Statement.{statement}
 use Rattle.checker.proofs.table.node_table.Tie as tie
 
@@ -27,7 +27,7 @@ returns c =
     let a = c.before.before.before.before.before.before.args in
     let x = node_at a.nodes.now in
     let z = answers_number 16 _ (table_of x (trace_of a.n a.columns.now) a.node (placement_of a.m (get_or a.given 0 0) (get_or a.given 1 0) (get_or a.given 2 0))) a.words.now
-    (node-16 x a.count a.n a.m a.node (get_or a.given 0 0) (get_or a.given 1 0) (get_or a.given 2 0) (sym c.before.before.is-formula-node.ensures ∙ not-true _ c.before.if1.true)) refl in
+    (node_16 x a.count a.n a.m a.node (get_or a.given 0 0) (get_or a.given 1 0) (get_or a.given 2 0) (sym c.before.before.is-formula-node.ensures ∙ not-true _ c.before.if1.true)) refl in
     (c.refused.ensures ∙ z.answered, z.left)
 
 names-placed-requires : tie.Need-names-placed-requires
@@ -42,7 +42,7 @@ returns-2 c =
     let a = c.before.before.before.before.before.before.before.before.args in
     let x = node_at a.nodes.now in
     let z = answers_number 17 _ (table_of x (trace_of a.n a.columns.now) a.node (placement_of a.m (get_or a.given 0 0) (get_or a.given 1 0) (get_or a.given 2 0))) a.words.now
-    (node-17 x a.count a.n a.m a.node (get_or a.given 0 0) (get_or a.given 1 0) (get_or a.given 2 0) (sym c.before.before.before.before.is-formula-node.ensures ∙ not-false _ c.before.before.before.if1.false)
+    (node_17 x a.count a.n a.m a.node (get_or a.given 0 0) (get_or a.given 1 0) (get_or a.given 2 0) (sym c.before.before.before.before.is-formula-node.ensures ∙ not-false _ c.before.before.before.if1.false)
     (sym c.before.before.names-placed.ensures ∙ not-true _ c.before.if2.true)) refl in
     (c.refused2.ensures ∙ z.answered, z.left)
 
@@ -72,7 +72,7 @@ returns-3 c =
     let x = node_at a.nodes.now in
     let r = c.before.before.before.before.rows_of_lem.ensures in
     let z = answers_rows (node_refusal x a.count a.n a.m a.node (get_or a.given 0 0) (get_or a.given 1 0) (get_or a.given 2 0)) (table_of x (trace_of a.n a.columns.now) a.node (placement_of a.m (get_or a.given 0 0) (get_or a.given 1 0) (get_or a.given 2 0))) a.words.now
-    (node-right x a.count a.n a.m a.node (get_or a.given 0 0) (get_or a.given 1 0) (get_or a.given 2 0) (sym c.before.before.before.before.before.before.before.before.before.before.before.is-formula-node.ensures ∙ not-false _ c.before.before.before.before.before.before.before.before.before.before.if1.false)
+    (node_right_lem x a.count a.n a.m a.node (get_or a.given 0 0) (get_or a.given 1 0) (get_or a.given 2 0) (sym c.before.before.before.before.before.before.before.before.before.before.before.is-formula-node.ensures ∙ not-false _ c.before.before.before.before.before.before.before.before.before.before.if1.false)
     (sym c.before.before.before.before.before.before.before.before.before.names-placed.ensures ∙ not-false _ c.before.before.before.before.before.before.before.before.if2.false)) in
     let found = r.0 ∙ ap (λ (l : List ℕ). table_of x (trace_of a.n a.columns.now) a.node (standing l)) c.before.before.before.before.before.before.before.heed-all.ensures in
     (ap (λ (l : List ℕ). record { refused = 0; rows = l }) found ∙ z.answered, r.1 ∙ z.left)

@@ -1,7 +1,7 @@
 -- `exports::boards::fasunqir_feed` meets its contract.
 use native.Mathlib.Omega.{arith}
 use borrow.Author.Rules.{rules}
-use Rattle.exports.proofs.Cells.{refused_small, checked-small, feed-kept, feed-put}
+use Rattle.exports.proofs.Cells.{refused_small, checked_small, feed_kept, feed_put}
 use Rattle.exports.proofs.boards.fasunqir_feed.Statement.{statement}
 use Rattle.exports.proofs.boards.fasunqir_feed.Tie as tie
 
@@ -24,7 +24,7 @@ packed-verdict-requires : tie.Need-packed-verdict-requires
 packed-verdict-requires c κs =
     let a = c.before.before.before.before.before.before.before.before.before.before.before.args in
     let fed = c.before.before.before.before.before.feed.ensures in
-    checked-small a.bytes.now a.cycles.now a.taken.now a.verdict.now a.cycle a.words.now _ _ fed.1.0 fed.1.1.0 _ c.before.answer2.given.1
+    checked_small a.bytes.now a.cycles.now a.taken.now a.verdict.now a.cycle a.words.now _ _ fed.1.0 fed.1.1.0 _ c.before.answer2.given.1
 
 same_length : tie.Need-same-length
 same_length c = search rules
@@ -33,7 +33,7 @@ returns : tie.Need-returns
 returns c =
     let a = c.before.before.before.before.before.before.before.before.before.before.before.args in
     let fed = c.before.before.before.before.before.feed.ensures in
-    feed-kept a.bytes.now a.cycles.now a.taken.now a.verdict.now a.cycle a.words.now _ _ fed.1.0 fed.1.1.0 _ c.before.answer.given.1
+    feed_kept a.bytes.now a.cycles.now a.taken.now a.verdict.now a.cycle a.words.now _ _ fed.1.0 fed.1.1.0 _ c.before.answer.given.1
 
 same-length-2 : tie.Need-same-length-2
 same-length-2 c = search rules
@@ -42,7 +42,7 @@ returns-2 : tie.Need-returns-2
 returns-2 c =
     let a = c.before.before.before.before.before.before.before.before.before.before.before.before.before.before.args in
     let fed = c.before.before.before.before.before.before.before.before.feed.ensures in
-    feed-put a.bytes.now a.cycles.now a.taken.now a.verdict.now a.cycle a.words.now _ _ fed.1.0 fed.1.1.0 _ _ _ c.before.before.before.before.answer2.given.1 c.before.before.packed-verdict.ensures fed.0
+    feed_put a.bytes.now a.cycles.now a.taken.now a.verdict.now a.cycle a.words.now _ _ fed.1.0 fed.1.1.0 _ _ _ c.before.before.before.before.answer2.given.1 c.before.before.packed-verdict.ensures fed.0
 
 pub fasunqir-feed-spec : {M : Type 1} → statement M
 fasunqir-feed-spec =

@@ -9,8 +9,8 @@ use borrow.Author.Tests.{not-true, not-false}
 use borrow.Fn.Kinds.{In}
 use borrow.Fn.PlainCycle.{Measures, is, falls, and}
 use Rattle.formulas.specs.Pieces.{about_level, has_level, put_level, Taken}
-use Rattle.propositions.proofs.Chains.{Turns, left, turns-start, turns-ready, turns-joinable, turns-again, turns-less, turns-end}
-use Rattle.formulas.proofs.Formulas.{level_zero, level_chain, formula_reads, term-piece, term-bracket, term-none, bracket_none, bracket-bare, star-puttable, bracket-star}
+use Rattle.propositions.proofs.Chains.{Turns, left, turns_start, turns_ready, turns_joinable, turns_again, turns_less, turns_end}
+use Rattle.formulas.proofs.Formulas.{level_zero, level_chain, formula_reads, term_piece, term_bracket, term_none, bracket_none, bracket_bare, star_puttable, bracket_star}
 use Rattle.formulas.proofs.Pieces.{word_ready}
 use Rattle.propositions.proofs.Went.{within_open}
 use Rattle.formulas.proofs.formula.bracket.Reads as bracket
@@ -112,46 +112,46 @@ abbrev joined_μ_loop : joined-lts.decreases-loop
 joined_μ_loop text at depth level nodes₀ count below sign got₀ more₀ nodes got more = left text more
 
 module _ (m : ℕ) where
-  bracket-opened-requires : bracket-lts.Need-opened-requires (bracket_claims m) (bracket_at m) bracket.Post
-  bracket-opened-requires c κs = search rules
+  bracket_opened_requires : bracket-lts.Need-opened-requires (bracket_claims m) (bracket_at m) bracket.Post
+  bracket_opened_requires c κs = search rules
 
-  bracket-returns : bracket-lts.Need-returns (bracket_claims m) (bracket_at m) bracket.Post
-  bracket-returns c = let opened = c.before.before.opened in
+  bracket_returns : bracket-lts.Need-returns (bracket_claims m) (bracket_at m) bracket.Post
+  bracket_returns c = let opened = c.before.before.opened in
       bracket_none opened.ensures (not-true opened.result.ok c.if1.true) refl refl
 
-  bracket-sub-formula : bracket-lts.Need-overflow-sub-formula (bracket_claims m) (bracket_at m) bracket.Post
-  bracket-sub-formula c =
+  bracket_sub_formula : bracket-lts.Need-overflow-sub-formula (bracket_claims m) (bracket_at m) bracket.Post
+  bracket_sub_formula c =
       let opened = c.before.before.opened in
       omega (arith, opened.ensures.roomy (not-false opened.result.ok c.if1.false))
 
-  bracket-formula-requires : bracket-lts.Need-formula-requires (bracket_claims m) (bracket_at m) bracket.Post
-  bracket-formula-requires c κs =
+  bracket_formula_requires : bracket-lts.Need-formula-requires (bracket_claims m) (bracket_at m) bracket.Post
+  bracket_formula_requires c κs =
       let start = c.before.before.before.before.before.before in
       let opened = c.before.before.before.opened in
       let ok = not-false opened.result.ok c.before.if1.false in
       (omega (arith, start.requires.0, opened.ensures.roomy ok), within_open start.requires.1 ok opened.ensures)
 
-  bracket-sign-requires : bracket-lts.Need-sign-requires (bracket_claims m) (bracket_at m) bracket.Post
-  bracket-sign-requires c κs = search rules
+  bracket_sign_requires : bracket-lts.Need-sign-requires (bracket_claims m) (bracket_at m) bracket.Post
+  bracket_sign_requires c κs = search rules
 
-  bracket-sign-requires-2 : bracket-lts.Need-sign-requires-2 (bracket_claims m) (bracket_at m) bracket.Post
-  bracket-sign-requires-2 c κs = search rules
+  bracket_sign_requires_2 : bracket-lts.Need-sign-requires-2 (bracket_claims m) (bracket_at m) bracket.Post
+  bracket_sign_requires_2 c κs = search rules
 
-  bracket-over-requires : bracket-lts.Need-over-requires (bracket_claims m) (bracket_at m) bracket.Post
-  bracket-over-requires c κs =
+  bracket_over_requires : bracket-lts.Need-over-requires (bracket_claims m) (bracket_at m) bracket.Post
+  bracket_over_requires c κs =
       let at-formula = c.before.before.before.before.before.before in
       let at-if1 = at-formula.before.before in
       let at-opened = at-if1.before.before in
       let start = at-opened.before.before.before in
-      star-puttable start.requires.1 (not-false at-opened.opened.result.ok at-if1.if1.false) at-opened.opened.ensures
+      star_puttable start.requires.1 (not-false at-opened.opened.result.ok at-if1.if1.false) at-opened.opened.ensures
       at-formula.formula.ensures
       c.before.before.before.sign.ensures c.before.before.sign2.ensures c.before.if2.true (omega (arith, start.well-formed.0))
 
-  bracket-same-length : bracket-lts.Need-same-length (bracket_claims m) (bracket_at m) bracket.Post
-  bracket-same-length c = search rules
+  bracket_same_length : bracket-lts.Need-same-length (bracket_claims m) (bracket_at m) bracket.Post
+  bracket_same_length c = search rules
 
-  bracket-returns-2 : bracket-lts.Need-returns-2 (bracket_claims m) (bracket_at m) bracket.Post
-  bracket-returns-2 c =
+  bracket_returns_2 : bracket-lts.Need-returns-2 (bracket_claims m) (bracket_at m) bracket.Post
+  bracket_returns_2 c =
       let at-if2 = c.before.before.before.before in
       let at-sign2 = at-if2.before in
       let at_sign = at-sign2.before in
@@ -159,211 +159,211 @@ module _ (m : ℕ) where
       let at-if1 = at-formula.before.before in
       let at-opened = at-if1.before.before in
       let start = at-opened.before.before.before in
-      bracket-star start.requires.1 (not-false at-opened.opened.result.ok at-if1.if1.false) at-opened.opened.ensures
+      bracket_star start.requires.1 (not-false at-opened.opened.result.ok at-if1.if1.false) at-opened.opened.ensures
       at-formula.formula.ensures
       at_sign.sign.ensures at-sign2.sign2.ensures at-if2.if2.true c.before.before.over.ensures
 
-  bracket-same-length-2 : bracket-lts.Need-same-length-2 (bracket_claims m) (bracket_at m) bracket.Post
-  bracket-same-length-2 c = search rules
+  bracket_same_length_2 : bracket-lts.Need-same-length-2 (bracket_claims m) (bracket_at m) bracket.Post
+  bracket_same_length_2 c = search rules
 
-  bracket-returns-3 : bracket-lts.Need-returns-3 (bracket_claims m) (bracket_at m) bracket.Post
-  bracket-returns-3 c =
+  bracket_returns_3 : bracket-lts.Need-returns-3 (bracket_claims m) (bracket_at m) bracket.Post
+  bracket_returns_3 c =
       let at-formula = c.before.before.before.before.before in
       let at-if1 = at-formula.before.before in
       let at-opened = at-if1.before.before in
       let start = at-opened.before.before.before in
-      bracket-bare start.requires.1 (not-false at-opened.opened.result.ok at-if1.if1.false) at-opened.opened.ensures
+      bracket_bare start.requires.1 (not-false at-opened.opened.result.ok at-if1.if1.false) at-opened.opened.ensures
       at-formula.formula.ensures
       c.before.before.sign.ensures c.before.sign2.ensures c.if2.false
 
-  formula-joined-requires : formula-lts.Need-joined-requires (formula_claims m) (formula_at_lem m) formula.Post
-  formula-joined-requires c κs =
+  formula_joined_requires : formula-lts.Need-joined-requires (formula_claims m) (formula_at_lem m) formula.Post
+  formula_joined_requires c κs =
       let start = c.before.before.before in
       (omega (arith, start.requires.0), (start.requires.1, omega arith))
 
-  formula-same-length : formula-lts.Need-same-length (formula_claims m) (formula_at_lem m) formula.Post
-  formula-same-length c = search rules
+  formula_same_length : formula-lts.Need-same-length (formula_claims m) (formula_at_lem m) formula.Post
+  formula_same_length c = search rules
 
-  formula-returns : formula-lts.Need-returns (formula_claims m) (formula_at_lem m) formula.Post
-  formula-returns c = formula_reads c.before.before.joined.ensures
+  formula_returns : formula-lts.Need-returns (formula_claims m) (formula_at_lem m) formula.Post
+  formula_returns c = formula_reads c.before.before.joined.ensures
 
-  joined-term-requires : joined-lts.Need-term-requires (joined_claims m) (joined_at m) joined.Post joined_inv_loop joined_μ_loop
-  joined-term-requires c κs = (omega (arith, c.before.before.before.before.requires.0), c.before.before.before.before.requires.1.0)
+  joined_term_requires : joined-lts.Need-term-requires (joined_claims m) (joined_at m) joined.Post joined_inv_loop joined_μ_loop
+  joined_term_requires c κs = (omega (arith, c.before.before.before.before.requires.0), c.before.before.before.before.requires.1.0)
 
-  joined-same-length : joined-lts.Need-same-length (joined_claims m) (joined_at m) joined.Post joined_inv_loop joined_μ_loop
-  joined-same-length c = search rules
+  joined_same_length : joined-lts.Need-same-length (joined_claims m) (joined_at m) joined.Post joined_inv_loop joined_μ_loop
+  joined_same_length c = search rules
 
-  joined-returns : joined-lts.Need-returns (joined_claims m) (joined_at m) joined.Post joined_inv_loop joined_μ_loop
-  joined-returns c =
+  joined_returns : joined-lts.Need-returns (joined_claims m) (joined_at m) joined.Post joined_inv_loop joined_μ_loop
+  joined_returns c =
       let at-if1 = c.before.before.before.before in
       let start = at-if1.before.before.before in
       level_zero start.args.level at-if1.if1.true c.before.before.term.ensures
 
-  joined-sub-below : joined-lts.Need-overflow-sub-below (joined_claims m) (joined_at m) joined.Post joined_inv_loop joined_μ_loop
-  joined-sub-below c = search rules
+  joined_sub_below : joined-lts.Need-overflow-sub-below (joined_claims m) (joined_at m) joined.Post joined_inv_loop joined_μ_loop
+  joined_sub_below c = search rules
 
-  joined-sub-sign : joined-lts.Need-overflow-sub-sign (joined_claims m) (joined_at m) joined.Post joined_inv_loop joined_μ_loop
-  joined-sub-sign c = search rules
+  joined_sub_sign : joined-lts.Need-overflow-sub-sign (joined_claims m) (joined_at m) joined.Post joined_inv_loop joined_μ_loop
+  joined_sub_sign c = search rules
 
-  joined-joined-requires : joined-lts.Need-joined-requires (joined_claims m) (joined_at m) joined.Post joined_inv_loop joined_μ_loop
-  joined-joined-requires c κs =
+  joined_joined_requires : joined-lts.Need-joined-requires (joined_claims m) (joined_at m) joined.Post joined_inv_loop joined_μ_loop
+  joined_joined_requires c κs =
       let start = c.before.before.before.before in
       (omega (arith, start.requires.0, c.before.if1.false), (start.requires.1.0, omega (arith, start.requires.1.1)))
 
-  joined-sign-requires : joined-lts.Need-sign-requires (joined_claims m) (joined_at m) joined.Post joined_inv_loop joined_μ_loop
-  joined-sign-requires c κs = search rules
+  joined_sign_requires : joined-lts.Need-sign-requires (joined_claims m) (joined_at m) joined.Post joined_inv_loop joined_μ_loop
+  joined_sign_requires c κs = search rules
 
-  joined-loop-holds : joined-lts.Need-loop-init (joined_claims m) (joined_at m) joined.Post joined_inv_loop joined_μ_loop
-  joined-loop-holds c =
+  joined_loop_holds : joined-lts.Need-loop-init (joined_claims m) (joined_at m) joined.Post joined_inv_loop joined_μ_loop
+  joined_loop_holds c =
       let at-if1 = c.before.before.before.before.before in
       let start = at-if1.before.before.before in
-      turns-start (level_chain start.args.level at-if1.if1.false start.requires.1.1) c.sign.ensures
+      turns_start (level_chain start.args.level at-if1.if1.false start.requires.1.1) c.sign.ensures
 
-  joined-last-requires : joined-lts.Need-last-requires (joined_claims m) (joined_at m) joined.Post joined_inv_loop joined_μ_loop
-  joined-last-requires c κs = search rules
+  joined_last_requires : joined-lts.Need-last-requires (joined_claims m) (joined_at m) joined.Post joined_inv_loop joined_μ_loop
+  joined_last_requires c κs = search rules
 
-  joined-joined-requires-2 : joined-lts.Need-joined-requires-2 (joined_claims m) (joined_at m) joined.Post joined_inv_loop joined_μ_loop
-  joined-joined-requires-2 c κs =
+  joined_joined_requires_2 : joined-lts.Need-joined-requires-2 (joined_claims m) (joined_at m) joined.Post joined_inv_loop joined_μ_loop
+  joined_joined_requires_2 c κs =
       let at_joined = c.before.before.before.before.before.before.before in
       let at-if1 = at_joined.before.before in
       let start = at-if1.before.before.before in
       let ready =
-      turns-ready (level_chain start.args.level at-if1.if1.false start.requires.1.1) at_joined.joined.ensures
+      turns_ready (level_chain start.args.level at-if1.if1.false start.requires.1.1) at_joined.joined.ensures
       c.before.before.before.loop.invariant start.requires.1.0 c.before.before.loop-test.true in
       (omega (arith, start.requires.0, at-if1.if1.false), (ready, omega (arith, start.requires.1.1)))
 
-  joined-add-join : joined-lts.Need-overflow-add-join (joined_claims m) (joined_at m) joined.Post joined_inv_loop joined_μ_loop
-  joined-add-join c =
+  joined_add_join : joined-lts.Need-overflow-add-join (joined_claims m) (joined_at m) joined.Post joined_inv_loop joined_μ_loop
+  joined_add_join c =
       let start = c.before.before.before.before.before.before.before.before.before.before.before.before.before.before.before in
       omega (arith, start.requires.1.1)
 
-  joined-join-requires : joined-lts.Need-join-requires (joined_claims m) (joined_at m) joined.Post joined_inv_loop joined_μ_loop
-  joined-join-requires c κs =
+  joined_join_requires : joined-lts.Need-join-requires (joined_claims m) (joined_at m) joined.Post joined_inv_loop joined_μ_loop
+  joined_join_requires c κs =
       let at_last = c.before.before.before.before.before in
       let at-loop-test = at_last.before in
       let at-loop = at-loop-test.before in
       let at_joined = at-loop.before.before.before.before in
       let at-if1 = at_joined.before.before in
       let start = at-if1.before.before.before in
-      turns-joinable (level_chain start.args.level at-if1.if1.false start.requires.1.1) at_joined.joined.ensures at-loop.loop.invariant
+      turns_joinable (level_chain start.args.level at-if1.if1.false start.requires.1.1) at_joined.joined.ensures at-loop.loop.invariant
       start.requires.1.0
       (omega (arith, start.well-formed.0)) at-loop-test.loop-test.true c.before.before.before.joined2.ensures at_last.last.ensures
 
-  joined-sign-requires-2 : joined-lts.Need-sign-requires-2 (joined_claims m) (joined_at m) joined.Post joined_inv_loop joined_μ_loop
-  joined-sign-requires-2 c κs = search rules
+  joined_sign_requires_2 : joined-lts.Need-sign-requires-2 (joined_claims m) (joined_at m) joined.Post joined_inv_loop joined_μ_loop
+  joined_sign_requires_2 c κs = search rules
 
-  joined-loop-less : joined-lts.Need-loop-smaller (joined_claims m) (joined_at m) joined.Post joined_inv_loop joined_μ_loop
-  joined-loop-less c =
+  joined_loop_less : joined-lts.Need-loop-smaller (joined_claims m) (joined_at m) joined.Post joined_inv_loop joined_μ_loop
+  joined_loop_less c =
       let at-joined2 = c.before.before.before.before.before.before.before in
       let at_last = at-joined2.before.before in
       let at-loop-test = at_last.before in
       let at-loop = at-loop-test.before in
       let at-if1 = at-loop.before.before.before.before.before.before in
       let start = at-if1.before.before.before in
-      turns-less (level_chain start.args.level at-if1.if1.false start.requires.1.1) at-loop.loop.invariant at-loop-test.loop-test.true
+      turns_less (level_chain start.args.level at-if1.if1.false start.requires.1.1) at-loop.loop.invariant at-loop-test.loop-test.true
       at-joined2.joined2.ensures at_last.last.ensures
       c.before.before.before.join.ensures c.sign2.ensures
 
-  joined-loop-again : joined-lts.Need-loop-preserved (joined_claims m) (joined_at m) joined.Post joined_inv_loop joined_μ_loop
-  joined-loop-again c =
+  joined_loop_again : joined-lts.Need-loop-preserved (joined_claims m) (joined_at m) joined.Post joined_inv_loop joined_μ_loop
+  joined_loop_again c =
       let at-joined2 = c.before.before.before.before.before.before.before in
       let at_last = at-joined2.before.before in
       let at-loop-test = at_last.before in
       let at-loop = at-loop-test.before in
       let at-if1 = at-loop.before.before.before.before.before.before in
       let start = at-if1.before.before.before in
-      turns-again (level_chain start.args.level at-if1.if1.false start.requires.1.1) at-loop.loop.invariant at-loop-test.loop-test.true
+      turns_again (level_chain start.args.level at-if1.if1.false start.requires.1.1) at-loop.loop.invariant at-loop-test.loop-test.true
       at-joined2.joined2.ensures at_last.last.ensures
       c.before.before.before.join.ensures c.sign2.ensures
 
-  joined-same-length-2 : joined-lts.Need-same-length-2 (joined_claims m) (joined_at m) joined.Post joined_inv_loop joined_μ_loop
-  joined-same-length-2 c = search rules
+  joined_same_length_2 : joined-lts.Need-same-length-2 (joined_claims m) (joined_at m) joined.Post joined_inv_loop joined_μ_loop
+  joined_same_length_2 c = search rules
 
-  joined-returns-2 : joined-lts.Need-returns-2 (joined_claims m) (joined_at m) joined.Post joined_inv_loop joined_μ_loop
-  joined-returns-2 c =
+  joined_returns_2 : joined-lts.Need-returns-2 (joined_claims m) (joined_at m) joined.Post joined_inv_loop joined_μ_loop
+  joined_returns_2 c =
       let at_joined = c.before.before.before.before.before in
       let at-if1 = at_joined.before.before in
       let start = at-if1.before.before.before in
-      turns-end (level_chain start.args.level at-if1.if1.false start.requires.1.1) at_joined.joined.ensures c.before.loop.invariant
+      turns_end (level_chain start.args.level at-if1.if1.false start.requires.1.1) at_joined.joined.ensures c.before.loop.invariant
       c.loop-test.false
 
-  term-token-requires : term-lts.Need-token-requires (term_claims m) (term_at m) term.Post
-  term-token-requires c κs = search rules
+  term_token_requires : term-lts.Need-token-requires (term_claims m) (term_at m) term.Post
+  term_token_requires c κs = search rules
 
-  term-returns : term-lts.Need-returns (term_claims m) (term_at m) term.Post
-  term-returns c = term-none c.before.before.token.ensures c.if1.true refl refl
+  term_returns : term-lts.Need-returns (term_claims m) (term_at m) term.Post
+  term_returns c = term_none c.before.before.token.ensures c.if1.true refl refl
 
-  term-bracket-requires : term-lts.Need-bracket-requires (term_claims m) (term_at m) term.Post
-  term-bracket-requires c κs =
+  term_bracket_requires : term-lts.Need-bracket-requires (term_claims m) (term_at m) term.Post
+  term_bracket_requires c κs =
       let start = c.before.before.before.before.before.before.before in
       (omega (arith, start.requires.0), start.requires.1)
 
-  term-same-length : term-lts.Need-same-length (term_claims m) (term_at m) term.Post
-  term-same-length c = search rules
+  term_same_length : term-lts.Need-same-length (term_claims m) (term_at m) term.Post
+  term_same_length c = search rules
 
-  term-returns-2 : term-lts.Need-returns-2 (term_claims m) (term_at m) term.Post
-  term-returns-2 c =
+  term_returns_2 : term-lts.Need-returns-2 (term_claims m) (term_at m) term.Post
+  term_returns_2 c =
       let at-if2 = c.before.before.before.before in
       let at-if1 = at-if2.before in
       let at-token = at-if1.before.before in
-      term-bracket at-token.token.ensures at-if1.if1.false at-if2.if2.true c.before.before.bracket.ensures
+      term_bracket at-token.token.ensures at-if1.if1.false at-if2.if2.true c.before.before.bracket.ensures
 
-  term-piece-requires : term-lts.Need-piece-requires (term_claims m) (term_at m) term.Post
-  term-piece-requires c κs =
+  term_piece_requires : term-lts.Need-piece-requires (term_claims m) (term_at m) term.Post
+  term_piece_requires c κs =
       let at-token = c.before.before.before.before in
       let start = at-token.before.before.before in
       (word_ready start.requires.1 at-token.token.ensures c.before.before.if1.false, c.before.if2.false)
 
-  term-same-length-2 : term-lts.Need-same-length-2 (term_claims m) (term_at m) term.Post
-  term-same-length-2 c = search rules
+  term_same_length_2 : term-lts.Need-same-length-2 (term_claims m) (term_at m) term.Post
+  term_same_length_2 c = search rules
 
-  term-returns-3 : term-lts.Need-returns-3 (term_claims m) (term_at m) term.Post
-  term-returns-3 c =
+  term_returns_3 : term-lts.Need-returns-3 (term_claims m) (term_at m) term.Post
+  term_returns_3 c =
       let at-if2 = c.before.before.before.before in
       let at-if1 = at-if2.before in
       let at-token = at-if1.before.before in
-      term-piece at-token.token.ensures at-if1.if1.false at-if2.if2.false c.before.before.piece.ensures
+      term_piece at-token.token.ensures at-if1.if1.false at-if2.if2.false c.before.before.piece.ensures
 
 pub +bracket-formula-joined-term-spec : {M : Type 1} → statement M
 +bracket-formula-joined-term-spec =
     close μ_bracket μ_formula μ_joined μ_term
     (λ m. bracket-lts.spec (bracket_claims m) (bracket_at m) bracket.Post
-    (bracket-opened-requires m)
-    (bracket-returns m)
-    (bracket-sub-formula m)
-    (bracket-formula-requires m)
-    (bracket-sign-requires m)
-    (bracket-sign-requires-2 m)
-    (bracket-over-requires m)
-    (bracket-same-length m)
-    (bracket-returns-2 m)
-    (bracket-same-length-2 m)
-    (bracket-returns-3 m))
-    (λ m. formula-lts.spec (formula_claims m) (formula_at_lem m) formula.Post (formula-joined-requires m) (formula-same-length m) (formula-returns m))
+    (bracket_opened_requires m)
+    (bracket_returns m)
+    (bracket_sub_formula m)
+    (bracket_formula_requires m)
+    (bracket_sign_requires m)
+    (bracket_sign_requires_2 m)
+    (bracket_over_requires m)
+    (bracket_same_length m)
+    (bracket_returns_2 m)
+    (bracket_same_length_2 m)
+    (bracket_returns_3 m))
+    (λ m. formula-lts.spec (formula_claims m) (formula_at_lem m) formula.Post (formula_joined_requires m) (formula_same_length m) (formula_returns m))
     (λ m. joined-lts.spec (joined_claims m) (joined_at m) joined.Post joined_inv_loop joined_μ_loop
-    (joined-term-requires m)
-    (joined-same-length m)
-    (joined-returns m)
-    (joined-sub-below m)
-    (joined-sub-sign m)
-    (joined-joined-requires m)
-    (joined-sign-requires m)
-    (joined-loop-holds m)
-    (joined-last-requires m)
-    (joined-joined-requires-2 m)
-    (joined-add-join m)
-    (joined-join-requires m)
-    (joined-sign-requires-2 m)
-    (joined-loop-less m)
-    (joined-loop-again m)
-    (joined-same-length-2 m)
-    (joined-returns-2 m))
+    (joined_term_requires m)
+    (joined_same_length m)
+    (joined_returns m)
+    (joined_sub_below m)
+    (joined_sub_sign m)
+    (joined_joined_requires m)
+    (joined_sign_requires m)
+    (joined_loop_holds m)
+    (joined_last_requires m)
+    (joined_joined_requires_2 m)
+    (joined_add_join m)
+    (joined_join_requires m)
+    (joined_sign_requires_2 m)
+    (joined_loop_less m)
+    (joined_loop_again m)
+    (joined_same_length_2 m)
+    (joined_returns_2 m))
     (λ m. term-lts.spec (term_claims m) (term_at m) term.Post
-    (term-token-requires m)
-    (term-returns m)
-    (term-bracket-requires m)
-    (term-same-length m)
-    (term-returns-2 m)
-    (term-piece-requires m)
-    (term-same-length-2 m)
-    (term-returns-3 m))
+    (term_token_requires m)
+    (term_returns m)
+    (term_bracket_requires m)
+    (term_same_length m)
+    (term_returns_2 m)
+    (term_piece_requires m)
+    (term_same_length_2 m)
+    (term_returns_3 m))

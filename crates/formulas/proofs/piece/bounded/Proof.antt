@@ -1,7 +1,7 @@
 -- `formulas::piece::bounded` meets its contract.
 use borrow.Author.Rules.{rules}
 use native.Mathlib.Omega.{arith}
-use Rattle.formulas.proofs.Pieces.{bounded-puttable, bounded-reads}
+use Rattle.formulas.proofs.Pieces.{bounded_puttable, bounded_reads}
 use Rattle.formulas.proofs.piece.bounded.Statement.{statement}
 use Rattle.formulas.proofs.piece.bounded.Tie as tie
 
@@ -15,7 +15,7 @@ over-requires : tie.Need-over-requires
 over-requires c κs =
     let at-proposition = c.before.before.before.before in
     let start = at-proposition.before.before.before.before in
-    bounded-puttable start.requires.0 (omega arith) start.requires.1.0.1 at-proposition.proposition.ensures c.before.sign.ensures
+    bounded_puttable start.requires.0 (omega arith) start.requires.1.0.1 at-proposition.proposition.ensures c.before.sign.ensures
 
 same_length : tie.Need-same-length
 same_length c = search rules
@@ -26,7 +26,7 @@ returns c =
     let at-proposition = at_sign.before.before.before in
     let start = at-proposition.before.before.before.before in
     let pre = start.requires in
-    bounded-reads pre.0 pre.1.0.0 pre.1.1.0 pre.1.1.1 at-proposition.proposition.ensures at_sign.sign.ensures
+    bounded_reads pre.0 pre.1.0.0 pre.1.1.0 pre.1.1.1 at-proposition.proposition.ensures at_sign.sign.ensures
     c.before.before.over.ensures
 
 pub bounded_spec : {M : Type 1} → statement M

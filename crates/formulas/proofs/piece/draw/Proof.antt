@@ -2,8 +2,8 @@
 use borrow.Author.Rules.{rules}
 use native.Mathlib.Omega.{arith}
 use mathlib.Core.Path.{refl}
-use Rattle.formulas.proofs.Pieces.{draw-went, draw_same, alone-puttable}
-use Rattle.propositions.proofs.Went.{reads-alone}
+use Rattle.formulas.proofs.Pieces.{draw_went, draw_same, alone_puttable}
+use Rattle.propositions.proofs.Went.{reads_alone}
 use Rattle.formulas.proofs.piece.draw.Statement.{statement}
 use Rattle.formulas.proofs.piece.draw.Tie as tie
 
@@ -32,9 +32,9 @@ put-requires c κs =
     let at-opened = at-number.before in
     let start = at-opened.before.before.before in
     let went =
-    draw-went start.requires at-opened.opened.ensures at-number.number.ensures at_sign.sign.ensures
+    draw_went start.requires at-opened.opened.ensures at-number.number.ensures at_sign.sign.ensures
     c.before.before.before.signal.ensures c.before.before.sign2.ensures in
-    alone-puttable {depth = start.args.depth} start.requires (omega arith) went.0
+    alone_puttable {depth = start.args.depth} start.requires (omega arith) went.0
     (λ e.
     let small = (went.1 e).1 in
     record { op_fits = omega arith; q_fits = c.before.in-byte.ensures.1; a_fits = omega arith; b_fits = omega arith })
@@ -52,9 +52,9 @@ returns c =
     let at-opened = at-number.before in
     let start = at-opened.before.before.before in
     let went =
-    draw-went start.requires at-opened.opened.ensures at-number.number.ensures at_sign.sign.ensures at-signal.signal.ensures
+    draw_went start.requires at-opened.opened.ensures at-number.number.ensures at_sign.sign.ensures at-signal.signal.ensures
     at-sign2.sign2.ensures in
-    reads-alone _ refl went.0 c.before.before.put.ensures (λ _. draw_same _ _ _ _ at-in-byte.in-byte.ensures.0)
+    reads_alone _ refl went.0 c.before.before.put.ensures (λ _. draw_same _ _ _ _ at-in-byte.in-byte.ensures.0)
     (λ e. (went.1 e).0)
 
 pub draw-spec : {M : Type 1} → statement M

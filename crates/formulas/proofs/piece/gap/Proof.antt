@@ -3,9 +3,9 @@ use borrow.Author.Rules.{rules}
 use native.Mathlib.Omega.{arith}
 use mathlib.Core.Path.{refl}
 use borrow.Author.Tests.{not-true, not-false}
-use Rattle.typed.specs.Draft.{putUnitF}
-use Rattle.formulas.proofs.Pieces.{gap-went, alone-puttable}
-use Rattle.propositions.proofs.Went.{went_well, reads_none, reads-alone}
+use Rattle.typed.specs.Draft.{put_unit_f}
+use Rattle.formulas.proofs.Pieces.{gap_went, alone_puttable}
+use Rattle.propositions.proofs.Went.{went_well, reads_none, reads_alone}
 use Rattle.formulas.proofs.piece.gap.Statement.{statement}
 use Rattle.formulas.proofs.piece.gap.Tie as tie
 
@@ -47,7 +47,7 @@ returns c =
     let at-opened = at_name.before in
     let start = at-opened.before.before.before in
     let went =
-    gap-went start.requires at-opened.opened.ensures at_name.name.ensures at_sign.sign.ensures at-name2.name2.ensures
+    gap_went start.requires at-opened.opened.ensures at_name.name.ensures at_sign.sign.ensures at-name2.name2.ensures
     at-sign2.sign2.ensures
     at-number.number.ensures at-sign3.sign3.ensures c.before.before.before.number2.ensures c.before.before.sign4.ensures
     in
@@ -65,7 +65,7 @@ mul-t18 c =
     let at-opened = at_name.before in
     let start = at-opened.before.before.before in
     let went =
-    gap-went start.requires at-opened.opened.ensures at_name.name.ensures at_sign.sign.ensures at-name2.name2.ensures
+    gap_went start.requires at-opened.opened.ensures at_name.name.ensures at_sign.sign.ensures at-name2.name2.ensures
     at-sign2.sign2.ensures
     at-number.number.ensures at-sign3.sign3.ensures at-number2.number2.ensures c.before.before.before.sign4.ensures in
     let facts = went.1 (not-false c.before.before.before.sign4.result.ok c.before.if1.false) in
@@ -84,7 +84,7 @@ add-t19 c =
     let at-opened = at_name.before in
     let start = at-opened.before.before.before in
     let went =
-    gap-went start.requires at-opened.opened.ensures at_name.name.ensures at_sign.sign.ensures at-name2.name2.ensures
+    gap_went start.requires at-opened.opened.ensures at_name.name.ensures at_sign.sign.ensures at-name2.name2.ensures
     at-sign2.sign2.ensures
     at-number.number.ensures at-sign3.sign3.ensures at-number2.number2.ensures at-sign4.sign4.ensures in
     let facts = went.1 (not-false at-sign4.sign4.result.ok c.before.before.if1.false) in
@@ -103,12 +103,12 @@ put-requires c κs =
     let at-opened = at_name.before in
     let start = at-opened.before.before.before in
     let went =
-    gap-went start.requires at-opened.opened.ensures at_name.name.ensures at_sign.sign.ensures at-name2.name2.ensures
+    gap_went start.requires at-opened.opened.ensures at_name.name.ensures at_sign.sign.ensures at-name2.name2.ensures
     at-sign2.sign2.ensures
     at-number.number.ensures at-sign3.sign3.ensures at-number2.number2.ensures at-sign4.sign4.ensures in
     let ok = not-false at-sign4.sign4.result.ok c.before.before.before.if1.false in
     let facts = went.1 ok in
-    alone-puttable {depth = start.args.depth} start.requires (omega (arith, start.well-formed.0)) (went_well ok went.0)
+    alone_puttable {depth = start.args.depth} start.requires (omega (arith, start.well-formed.0)) (went_well ok went.0)
     (λ _.
     record {
       op_fits = omega arith;
@@ -121,7 +121,7 @@ same_length : tie.Need-same-length
 same_length c = search rules
 
 returns-2 : tie.Need-returns-2
-unfolding putUnitF
+unfolding put_unit_f
 returns-2 c =
     let at-if1 = c.before.before.before.before.before.before in
     let at-sign4 = at-if1.before.before in
@@ -135,11 +135,11 @@ returns-2 c =
     let at-opened = at_name.before in
     let start = at-opened.before.before.before in
     let went =
-    gap-went start.requires at-opened.opened.ensures at_name.name.ensures at_sign.sign.ensures at-name2.name2.ensures
+    gap_went start.requires at-opened.opened.ensures at_name.name.ensures at_sign.sign.ensures at-name2.name2.ensures
     at-sign2.sign2.ensures
     at-number.number.ensures at-sign3.sign3.ensures at-number2.number2.ensures at-sign4.sign4.ensures in
     let ok = not-false at-sign4.sign4.result.ok at-if1.if1.false in
-    reads-alone _ refl (went_well ok went.0) c.before.before.put.ensures (λ _. refl) (λ _. (went.1 ok).0)
+    reads_alone _ refl (went_well ok went.0) c.before.before.put.ensures (λ _. refl) (λ _. (went.1 ok).0)
 
 pub gap-spec : {M : Type 1} → statement M
 gap-spec =

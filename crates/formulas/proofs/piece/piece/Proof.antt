@@ -1,7 +1,7 @@
 -- `formulas::piece::piece` meets its contract.
 use borrow.Author.Rules.{rules}
 use mathlib.Core.Path.{refl}
-use Rattle.formulas.proofs.Formulas.{point-closes, stretch-closes, whole-closes, brace-closes, slen-closes, scount-closes, sdur-closes, draw-closes, at-closes, gap-closes, other-closes}
+use Rattle.formulas.proofs.Formulas.{point_closes, stretch_closes, whole_closes, brace_closes, slen_closes, scount_closes, sdur_closes, draw_closes, at_closes, gap_closes, other_closes}
 use Rattle.formulas.proofs.piece.piece.Statement.{statement}
 use Rattle.formulas.proofs.piece.piece.Tie as tie
 
@@ -39,67 +39,67 @@ same_length : tie.Need-same-length
 same_length c = search rules
 
 returns : tie.Need-returns
-returns c = point-closes c.before.before.before.before.match.keys1 c.before.before.bounded.ensures
+returns c = point_closes c.before.before.before.before.match.keys1 c.before.before.bounded.ensures
 
 same-length-2 : tie.Need-same-length-2
 same-length-2 c = search rules
 
 returns-2 : tie.Need-returns-2
-returns-2 c = stretch-closes c.before.before.before.before.match.keys2 c.before.before.bounded2.ensures
+returns-2 c = stretch_closes c.before.before.before.before.match.keys2 c.before.before.bounded2.ensures
 
 same-length-3 : tie.Need-same-length-3
 same-length-3 c = search rules
 
 returns-3 : tie.Need-returns-3
-returns-3 c = whole-closes c.before.before.before.before.match.keys3 c.before.before.bounded3.ensures
+returns-3 c = whole_closes c.before.before.before.before.match.keys3 c.before.before.bounded3.ensures
 
 same-length-4 : tie.Need-same-length-4
 same-length-4 c = search rules
 
 returns-4 : tie.Need-returns-4
-returns-4 c = brace-closes c.before.before.before.before.match.keys4 c.before.before.bounded4.ensures
+returns-4 c = brace_closes c.before.before.before.before.match.keys4 c.before.before.bounded4.ensures
 
 same-length-5 : tie.Need-same-length-5
 same-length-5 c = search rules
 
 returns-5 : tie.Need-returns-5
-returns-5 c = slen-closes c.before.before.before.before.match.keys5 c.before.before.slen.ensures
+returns-5 c = slen_closes c.before.before.before.before.match.keys5 c.before.before.slen.ensures
 
 same-length-6 : tie.Need-same-length-6
 same-length-6 c = search rules
 
 returns-6 : tie.Need-returns-6
-returns-6 c = scount-closes c.before.before.before.before.match.keys6 c.before.before.counted.ensures
+returns-6 c = scount_closes c.before.before.before.before.match.keys6 c.before.before.counted.ensures
 
 same-length-7 : tie.Need-same-length-7
 same-length-7 c = search rules
 
 returns-7 : tie.Need-returns-7
-returns-7 c = sdur-closes c.before.before.before.before.match.keys7 c.before.before.counted2.ensures
+returns-7 c = sdur_closes c.before.before.before.before.match.keys7 c.before.before.counted2.ensures
 
 same-length-8 : tie.Need-same-length-8
 same-length-8 c = search rules
 
 returns-8 : tie.Need-returns-8
-returns-8 c = draw-closes c.before.before.before.before.match.keys8 c.before.before.draw.ensures
+returns-8 c = draw_closes c.before.before.before.before.match.keys8 c.before.before.draw.ensures
 
 same-length-9 : tie.Need-same-length-9
 same-length-9 c = search rules
 
 returns-9 : tie.Need-returns-9
-returns-9 c = at-closes c.before.before.before.before.match.keys9 c.before.before.at_name.ensures
+returns-9 c = at_closes c.before.before.before.before.match.keys9 c.before.before.at_name.ensures
 
 same-length-10 : tie.Need-same-length-10
 same-length-10 c = search rules
 
 returns-10 : tie.Need-returns-10
-returns-10 c = gap-closes c.before.before.before.before.match.keys10 c.before.before.gap.ensures
+returns-10 c = gap_closes c.before.before.before.before.match.keys10 c.before.before.gap.ensures
 
 returns-11 : tie.Need-returns-11
 returns-11 c =
     let start = c.before.before.before in
     let rest = c.match.rest in
-    other-closes rest.0.0.0.0.0.0.0.0.0.1 rest.0.0.0.0.0.0.0.0.1 rest.0.0.0.0.0.0.0.1
+    other_closes rest.0.0.0.0.0.0.0.0.0.1 rest.0.0.0.0.0.0.0.0.1 rest.0.0.0.0.0.0.0.1
     rest.0.0.0.0.0.0.1 rest.0.0.0.0.0.1
     rest.0.0.0.0.1 rest.0.0.0.1 rest.0.0.1 rest.0.1 rest.1 start.requires.1 refl refl
 

@@ -2,8 +2,8 @@
 use borrow.Author.Rules.{rules}
 use native.Mathlib.Omega.{arith}
 use mathlib.Core.Path.{refl}
-use Rattle.formulas.proofs.Pieces.{slen-went, slen_same, alone-puttable}
-use Rattle.propositions.proofs.Went.{reads-alone}
+use Rattle.formulas.proofs.Pieces.{slen_went, slen_same, alone_puttable}
+use Rattle.propositions.proofs.Went.{reads_alone}
 use Rattle.formulas.proofs.piece.slen.Statement.{statement}
 use Rattle.formulas.proofs.piece.slen.Tie as tie
 
@@ -18,7 +18,7 @@ put-requires c κs =
     let start = c.before.before.before.before.before in
     let number = c.before.number.ensures in
     let compared = c.before.before.comparison.ensures in
-    alone-puttable {depth = start.args.depth} start.requires (omega arith) (slen-went start.requires compared.0 number).0
+    alone_puttable {depth = start.args.depth} start.requires (omega arith) (slen_went start.requires compared.0 number).0
     (λ e.
     let small = number.small e in
     record { op_fits = omega arith; q_fits = omega (arith, compared.1); a_fits = omega arith; b_fits = omega arith })
@@ -33,8 +33,8 @@ returns c =
     let start = at-comparison.before.before.before in
     let compared = at-comparison.comparison in
     let number = at-number.number in
-    let went = slen-went start.requires compared.ensures.0 number.ensures in
-    reads-alone _ refl went.0 c.before.before.put.ensures
+    let went = slen_went start.requires compared.ensures.0 number.ensures in
+    reads_alone _ refl went.0 c.before.before.put.ensures
     (λ _. slen_same compared.result.value number.result.value _ compared.ensures.1) went.1
 
 pub slen-spec : {M : Type 1} → statement M

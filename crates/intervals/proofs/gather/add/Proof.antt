@@ -7,7 +7,7 @@ use lib.Dec.{ltb}
 use lib.ListN.{length, length-set}
 use Rattle.rows.specs.Row.{word}
 use Rattle.tables.specs.Table.{standing, row_at}
-use Rattle.intervals.proofs.Gathered.{cut_row, Added, added_none, added_turn, added-all, added-ends}
+use Rattle.intervals.proofs.Gathered.{cut_row, Added, added_none, added_turn, added_all, added_ends}
 use borrow.Author.Rules.{rules}
 use Rattle.intervals.proofs.gather.add.Statement.{statement}
 use Rattle.intervals.proofs.gather.add.Tie as tie
@@ -95,9 +95,9 @@ returns c =
     let high = c.before.before.before.before.lesser.ensures ∙ ap (λ (x : ℕ). min (x + 1) a.n) c.before.before.before.before.before.first_name_holds.ensures.0 in
     let end : l.b ≡ c.before.before.before.before.lesser.result = omega arith in
     let few : a.n ≤ 64 = omega arith in
-    let all = added-all a.out.now l.out a.words.now a.root a.names a.short (standing a.cycles) a.n _ l.all l.b few
+    let all = added_all a.out.now l.out a.words.now a.root a.names a.short (standing a.cycles) a.n _ l.all l.b few
     (ap (λ (x : ℕ). 2 ^ 64 - 1 - x) ends) (end ∙ high) l.invariant.3 in
-    let some = added-ends a.out.now l.out a.words.now a.root a.names a.short (standing a.cycles) a.n _ l.all l.b few
+    let some = added_ends a.out.now l.out a.words.now a.root a.names a.short (standing a.cycles) a.n _ l.all l.b few
     (ap (λ (x : ℕ). 2 ^ 64 - 1 - x) ends) (end ∙ high) l.invariant.3 in
     (l.invariant.0, (all, some))
 

@@ -18,7 +18,7 @@ up-to-requires c κs = search rules
 returns : tie.Need-returns
 returns c =
     let a = c.before.before.args in
-    ap₂ (λ (x y : ℕ). eqb (bit_and (bit_and a.set (2 ^ 64 - 1 - x)) y) 0) c.before.below.ensures c.up_to_lem.ensures
+    ap₂ (λ (x y : ℕ). eqb (bit_and (bit_and a.set (2 ^ 64 - 1 - x)) y) 0) c.before.below.ensures c.up_to.ensures
     ∙ none_is a.set a.s a.k (omega arith) c.before.before.requires
 
 pub none-between-spec : {M : Type 1} → statement M

@@ -6,7 +6,7 @@ use native.Mathlib.Omega.{arith}
 use borrow.Author.Rules.{rules}
 use Rattle.semantics.specs.Proposition.{bit}
 use Rattle.intervals.specs.Rows.{type_of}
-use Rattle.intervals.proofs.Searching.{RowsPassed, EndsPassed, CyclesPassed, first-end, next-end, first-cycle, next-cycle, found-least, next_row, none_found}
+use Rattle.intervals.proofs.Searching.{RowsPassed, EndsPassed, CyclesPassed, first_end, next_end, first_cycle, next_cycle, found_least, next_row, none_found}
 use Rattle.intervals.proofs.search.search.Statement.{statement}
 use Rattle.intervals.proofs.search.search.Tie as tie
 
@@ -66,7 +66,7 @@ loop-holds c =
     let from = c.before.starts in (
       c.before.before.before.before.before.places.invariant.0,
       c.next.ensures.ok,
-      first-end (type_of a.clause-type) a.first.now a.third.now a.answers.now a.n c.before.before.before.before.before.places.i from.result from.ensures c.next.result c.next.ensures,
+      first_end (type_of a.clause-type) a.first.now a.third.now a.answers.now a.n c.before.before.before.before.before.places.i from.result from.ensures c.next.result c.next.ensures,
     )
 
 ends-requires : tie.Need-ends-requires invariant-loop2 decreases-loop2 invariant-loop decreases-loop invariant-places decreases-places
@@ -83,7 +83,7 @@ loop2-holds c =
     let to = c.before.ends in (
       l.invariant.0,
       c.next2.ensures.ok,
-      first-cycle (type_of a.clause-type) a.first.now a.third.now a.answers.now a.n c.before.before.before.before.before.before.before.before.before.places.i from.result from.ensures l.j to.result to.ensures c.next2.result c.next2.ensures,
+      first_cycle (type_of a.clause-type) a.first.now a.third.now a.answers.now a.n c.before.before.before.before.before.before.before.before.before.places.i from.result from.ensures l.j to.result to.ensures c.next2.result c.next2.ensures,
     )
 
 no_reply_requires :
@@ -124,7 +124,7 @@ loop2-again c =
     let m = c.before.before.before.before.loop2 in (
       m.invariant.0,
       c.next3.ensures.ok,
-      next-cycle (type_of a.clause-type) a.first.now a.third.now a.answers.now a.n c.before.before.before.before.before.before.before.before.before.before.before.before.before.before.places.i from.result from.ensures l.j to.result to.ensures m.k
+      next_cycle (type_of a.clause-type) a.first.now a.third.now a.answers.now a.n c.before.before.before.before.before.before.before.before.before.before.before.before.before.before.places.i from.result from.ensures l.j to.result to.ensures m.k
           c.next3.result c.next3.ensures (sym c.before.before.no-reply.ensures ∙ c.before.if1.false) m.invariant.2,
     )
 
@@ -145,7 +145,7 @@ loop-again c =
     let m = c.before.before.loop2 in (
       m.invariant.0,
       c.next4.ensures.ok,
-      next-end (type_of a.clause-type) a.first.now a.third.now a.answers.now a.n c.before.before.before.before.before.before.before.before.before.before.before.before.places.i from.result from.ensures l.j c.next4.result c.next4.ensures l.invariant.2
+      next_end (type_of a.clause-type) a.first.now a.third.now a.answers.now a.n c.before.before.before.before.before.before.before.before.before.before.before.before.places.i from.result from.ensures l.j c.next4.result c.next4.ensures l.invariant.2
           (λ k h n. m.invariant.2 k (omega arith) n),
     )
 
@@ -179,7 +179,7 @@ returns-2 c =
     let few = c.before.before.before.before.before.before.before.before.before.before.before.before.before.before.before.before.before.before.before.requires.0.0 in
     let inside : p.i < a.n = omega (arith, c.before.before.before.before.before.before.before.before.before.before.before.before.before.before.before.lesser.ensures) in
     rw c.lesser2.ensures
-    (found-least (type_of a.clause-type) a.first.now a.third.now a.answers.now a.n p.i from.result from.ensures l.j to.result to.ensures m.k a.best
+    (found_least (type_of a.clause-type) a.first.now a.third.now a.answers.now a.n p.i from.result from.ensures l.j to.result to.ensures m.k a.best
     c.before.before.before.before.before.before.before.before.before.before.before.before.before.before.before.before.before.before.before.requires.0.1 few inside (omega arith) (omega arith) (l.invariant.1 (omega arith)) (m.invariant.1 (omega arith))
     (sym c.before.before.no-reply.ensures ∙ c.before.if1.true) p.invariant.2 l.invariant.2 m.invariant.2)
 

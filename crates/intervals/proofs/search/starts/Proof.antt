@@ -4,7 +4,7 @@ use Prim.Native.Nat.{ℕ, ◌-◌, ◌^◌}
 use native.Mathlib.Omega.{arith}
 use lib.Bits.{bit_and}
 use Rattle.intervals.specs.Rows.{starting}
-use Rattle.intervals.proofs.Found.{pref-starts, pref-none, init-starts, init-none, first_starts, implies-starts}
+use Rattle.intervals.proofs.Found.{pref_starts, pref_none, init_starts, init_none, first_starts, implies_starts}
 use borrow.Author.Rules.{rules}
 use Rattle.intervals.proofs.search.starts.Statement.{statement}
 use Rattle.intervals.proofs.search.starts.Tie as tie
@@ -53,26 +53,26 @@ returns c =
     let a = c.before.before.before.before.args in
     rw c.before.before.enum_told.given.1
     (ap (λ (x : ℕ). bit_and x (2 ^ 64 - 1 - a.answers)) c.below.ensures
-    ∙ pref-starts a.n a.i a.first a.answers c.before.before.before.before.requires (omega arith) c.before.if1.true)
+    ∙ pref_starts a.n a.i a.first a.answers c.before.before.before.before.requires (omega arith) c.before.if1.true)
 
 returns-2 : tie.Need-returns-2
 returns-2 c =
     let a = c.before.before.before.args in
     rw c.before.enum_told.given.1
-    (pref-none a.n a.i a.first a.answers c.before.before.before.requires (omega arith) c.if1.false)
+    (pref_none a.n a.i a.first a.answers c.before.before.before.requires (omega arith) c.if1.false)
 
 returns-3 : tie.Need-returns-3
 returns-3 c =
     let a = c.before.before.before.before.before.args in
     rw c.before.before.before.enum-told2.given.1
     (ap₂ (λ (x y : ℕ). bit_and x (bit_and a.first y)) c.before.below2.ensures c.before-first.ensures
-    ∙ init-starts a.n a.i a.first a.answers c.before.before.before.before.before.requires (omega arith) c.before.before.if2.true)
+    ∙ init_starts a.n a.i a.first a.answers c.before.before.before.before.before.requires (omega arith) c.before.before.if2.true)
 
 returns-4 : tie.Need-returns-4
 returns-4 c =
     let a = c.before.before.before.args in
     rw c.before.enum-told2.given.1
-    (init-none a.n a.i a.first a.answers c.before.before.before.requires (omega arith) c.if2.false)
+    (init_none a.n a.i a.first a.answers c.before.before.before.requires (omega arith) c.if2.false)
 
 returns-5 : tie.Need-returns-5
 unfolding starting
@@ -87,7 +87,7 @@ returns-6 c =
     let a = c.before.before.before.args in
     rw c.before.enum-told4.given.1
     (ap (λ (x : ℕ). bit_and x (bit_and a.first (2 ^ 64 - 1 - a.answers))) c.cycles-from2.ensures
-    ∙ implies-starts a.n a.i a.first a.answers c.before.before.before.requires (omega arith))
+    ∙ implies_starts a.n a.i a.first a.answers c.before.before.before.requires (omega arith))
 
 returns-7 : tie.Need-returns-7
 unfolding starting

@@ -5,7 +5,7 @@ use native.Mathlib.Omega.{arith}
 use borrow.Author.Rules.{rules}
 use lib.ListN.{length, drop}
 use Rattle.grammar.specs.Brackets.{deeper, too_deep}
-use Rattle.lexer.proofs.Deep.{deep-found, deep-next, deep_end}
+use Rattle.lexer.proofs.Deep.{deep_found, deep_next, deep_end}
 use Rattle.lexer.proofs.brackets.too_deep.Statement.{statement}
 use Rattle.lexer.proofs.brackets.too_deep.Tie as tie
 
@@ -34,7 +34,7 @@ open-after-requires c κs = (c.before.before.before.before.class-table.ensures, 
 returns : tie.Need-returns invariant-loop decreases-loop
 returns c =
     let at = c.before.before.before.before.before.loop in
-    sym (at.invariant.1 ∙ deep-found _ at.i at.depth _ (omega arith) c.before.Open-after.ensures c.if1.true)
+    sym (at.invariant.1 ∙ deep_found _ at.i at.depth _ (omega arith) c.before.Open-after.ensures c.if1.true)
 
 add-i : tie.Need-overflow-add-i invariant-loop decreases-loop
 add-i c = omega arith
@@ -45,7 +45,7 @@ loop-less c = omega arith
 loop-again : tie.Need-loop-preserved invariant-loop decreases-loop
 loop-again c =
     let at = c.before.before.before.before.before.loop in
-    (c.if1.false, at.invariant.1 ∙ deep-next _ at.i at.depth _ (omega arith) c.before.Open-after.ensures c.if1.false)
+    (c.if1.false, at.invariant.1 ∙ deep_next _ at.i at.depth _ (omega arith) c.before.Open-after.ensures c.if1.false)
 
 returns-2 : tie.Need-returns-2 invariant-loop decreases-loop
 returns-2 c = let at = c.before.loop in sym (at.invariant.1 ∙ deep_end _ at.i at.depth (omega arith))

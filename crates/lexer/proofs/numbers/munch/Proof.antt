@@ -5,8 +5,8 @@ use native.Mathlib.Omega.{arith}
 use lib.ListN.{length, get_or, drop}
 use Rattle.grammar.specs.Token.{is_digit, digits, number_from, numbered}
 use Rattle.grammar.specs.Class.{digit_class}
-use Rattle.lexer.proofs.Classes.{digit-class, told, untold}
-use Rattle.lexer.proofs.Digits.{numbered_capped, capped_most, digits_more, number_more, digits-none, number-done, digits-end, number-end}
+use Rattle.lexer.proofs.Classes.{digit_class_lem, told, untold}
+use Rattle.lexer.proofs.Digits.{numbered_capped, capped_most, digits_more, number_more, digits_none, number_done, digits_end, number_end}
 use Rattle.lexer.proofs.numbers.munch.Statement.{statement}
 use Rattle.lexer.proofs.numbers.munch.Tie as tie
 
@@ -31,15 +31,15 @@ returns : tie.Need-returns invariant-loop decreases-loop
 returns c =
     let at = c.before.before.before.before.loop in
     let text = c.before.before.before.before.before.before.before.args.text.now in
-    let none = untold is_digit digit_class digit-class _ _ c.before.class_of.ensures c.if1.true in
+    let none = untold is_digit digit_class digit_class_lem _ _ c.before.class_of.ensures c.if1.true in
     record {
-      value = at.invariant.3 ∙ ap numbered (number-done text at.i at.value (omega arith) none);
-      past = omega (arith, digits-none text at.i (omega arith) none);
+      value = at.invariant.3 ∙ ap numbered (number_done text at.i at.value (omega arith) none);
+      past = omega (arith, digits_none text at.i (omega arith) none);
       within = omega arith;
     }
 
 with-digit-requires : tie.Need-with-digit-requires invariant-loop decreases-loop
-with-digit-requires c κs = (omega arith, told is_digit digit_class digit-class _ _ c.before.class_of.ensures c.if1.false)
+with-digit-requires c κs = (omega arith, told is_digit digit_class digit_class_lem _ _ c.before.class_of.ensures c.if1.false)
 
 add-i : tie.Need-overflow-add-i invariant-loop decreases-loop
 add-i c = omega arith
@@ -51,7 +51,7 @@ loop-again : tie.Need-loop-preserved invariant-loop decreases-loop
 loop-again c =
     let at = c.before.before.before.before.before.loop in
     let text = c.before.before.before.before.before.before.before.before.args.text.now in
-    let one = told is_digit digit_class digit-class _ _ c.before.before.class_of.ensures c.before.if1.false in
+    let one = told is_digit digit_class digit_class_lem _ _ c.before.before.class_of.ensures c.before.if1.false in
     let n = at.value * 10 + (get_or text at.i 0 - 48) in (
       omega arith,
       rw c.with-digit.ensures (capped_most n),
@@ -65,8 +65,8 @@ returns-2 c =
     let at = c.before.loop in
     let text = c.before.before.before.before.args.text.now in
     record {
-      value = at.invariant.3 ∙ ap numbered (number-end text at.i at.value (omega arith));
-      past = omega (arith, digits-end text at.i (omega arith));
+      value = at.invariant.3 ∙ ap numbered (number_end text at.i at.value (omega arith));
+      past = omega (arith, digits_end text at.i (omega arith));
       within = omega arith;
     }
 

@@ -1,7 +1,7 @@
 -- `lexer::numbers::with_digit` meets its contract.
 use mathlib.Core.Path.{sym}
 use native.Mathlib.Omega.{arith}
-use Rattle.lexer.proofs.Digits.{digit_low, digit-high, capped_small, capped_large}
+use Rattle.lexer.proofs.Digits.{digit_low, digit_high, capped_small, capped_large}
 use Rattle.lexer.proofs.numbers.with_digit.Statement.{statement}
 use Rattle.lexer.proofs.numbers.with_digit.Tie as tie
 
@@ -12,10 +12,10 @@ sub_more : tie.Need-overflow-sub-more
 sub_more c = omega (arith, digit_low c.args.b c.requires.1)
 
 cast-more : tie.Need-overflow-cast-more
-cast-more c = omega (arith, digit-high c.args.b c.requires.1)
+cast-more c = omega (arith, digit_high c.args.b c.requires.1)
 
 add-more : tie.Need-overflow-add-more
-add-more c = omega (arith, digit-high c.args.b c.requires.1)
+add-more c = omega (arith, digit_high c.args.b c.requires.1)
 
 returns : tie.Need-returns
 returns c = sym (capped_small _ c.if1.true)

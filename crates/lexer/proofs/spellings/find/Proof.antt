@@ -5,7 +5,7 @@ use native.Mathlib.Omega.{arith}
 use lib.ListN.{length}
 use Rattle.grammar.specs.Token.{spelling_of}
 use Rattle.lexer.specs.Rows.{rows_from}
-use Rattle.lexer.proofs.Rows.{row-found, row-passed, none_found, found_later}
+use Rattle.lexer.proofs.Rows.{row_found, row_passed, none_found, found_later}
 use Rattle.lexer.proofs.spellings.find.Statement.{statement}
 use Rattle.lexer.proofs.spellings.find.Tie as tie
 
@@ -53,7 +53,7 @@ returns c =
     let at = c.before.before.before.before.before.loop in
     let eight : 9 * at.i + 8 - 9 * at.i ≡ 8 = omega arith in
     found_later _ _ _ _ at.invariant.1
-    (row-found _ _ _ at.i (omega arith) _ (rw eight at c.before.before.word-match.ensures) c.before.if1.true)
+    (row_found _ _ _ at.i (omega arith) _ (rw eight at c.before.before.word-match.ensures) c.before.if1.true)
 
 add-i : tie.Need-overflow-add-i invariant-loop decreases-loop
 add-i c = omega arith
@@ -65,7 +65,7 @@ loop-again : tie.Need-loop-preserved invariant-loop decreases-loop
 loop-again c =
     let at = c.before.before.before.before.loop in
     let eight : 9 * at.i + 8 - 9 * at.i ≡ 8 = omega arith in
-    (omega arith, at.invariant.1 ∙ row-passed _ _ _ at.i (omega arith) _ (rw eight at c.before.word-match.ensures) c.if1.false)
+    (omega arith, at.invariant.1 ∙ row_passed _ _ _ at.i (omega arith) _ (rw eight at c.before.word-match.ensures) c.if1.false)
 
 returns-2 : tie.Need-returns-2 invariant-loop decreases-loop
 returns-2 c =

@@ -1,7 +1,7 @@
 -- `lexer::spellings::spelling` meets its contract.
 use borrow.Author.Rules.{rules}
 use Rattle.grammar.specs.Class.{letter_class, bracket_class, joiner_class}
-use Rattle.lexer.proofs.Classes.{found_of, line-end-found, none_of}
+use Rattle.lexer.proofs.Classes.{found_of, line_end_found, none_of}
 use Rattle.lexer.proofs.spellings.spelling.Statement.{statement}
 use Rattle.lexer.proofs.spellings.spelling.Tie as tie
 
@@ -30,7 +30,7 @@ returns-3 c =
     found_of _ _ pre.0 pre.1 joiner_class _ c.before.if3.true c.joiner-in.ensures
 
 returns-4 : tie.Need-returns-4
-returns-4 c = let pre = c.before.before.before.before.before.requires in line-end-found _ _ pre.0 pre.1 c.if4.true
+returns-4 c = let pre = c.before.before.before.before.before.requires in line_end_found _ _ pre.0 pre.1 c.if4.true
 
 returns-5 : tie.Need-returns-5
 returns-5 c =

@@ -1,6 +1,6 @@
 -- `lexer::spellings::spelling_at` meets its contract.
 use native.Mathlib.Omega.{arith}
-use Rattle.lexer.proofs.Read.{found_rest, rest_class, width_fits, spelling-read}
+use Rattle.lexer.proofs.Read.{found_rest, rest_class, width_fits, spelling_read}
 use Rattle.lexer.proofs.spellings.spelling_at.Statement.{statement}
 use Rattle.lexer.proofs.spellings.spelling_at.Tie as tie
 
@@ -29,7 +29,7 @@ returns : tie.Need-returns
 returns c =
     let start = c.before.before.before.before.before in
     let found = found_rest start.args.text.now start.args.at _ c.before.before.spelling.ensures in
-    spelling-read _ _ _ start.requires.0 found _ start.requires.2 start.requires.3 c.before.token-of.ensures
+    spelling_read _ _ _ start.requires.0 found _ start.requires.2 start.requires.3 c.before.token-of.ensures
 
 pub spelling-at-spec : {M : Type 1} → statement M
 spelling-at-spec =

@@ -5,7 +5,7 @@ use native.Mathlib.Omega.{arith}
 use borrow.Author.Tests.{not-true, not-false}
 use lib.ListN.{length, drop}
 use Rattle.lexer.specs.Rows.{word_match}
-use Rattle.lexer.proofs.Rows.{match-end, match-filled, match-fails, match-goes-on}
+use Rattle.lexer.proofs.Rows.{match_end, match_filled, match_fails, match_goes_on}
 use Rattle.lexer.proofs.spellings.word_match.Statement.{statement}
 use Rattle.lexer.proofs.spellings.word_match.Tie as tie
 
@@ -24,7 +24,7 @@ shared-slice-read-b c = omega arith
 returns : tie.Need-returns invariant-loop decreases-loop
 returns c =
     let at = c.before.before.before.loop in
-    sym (at.invariant.1 ∙ match-filled _ _ at.k (omega arith) c.if1.true)
+    sym (at.invariant.1 ∙ match_filled _ _ at.k (omega arith) c.if1.true)
 
 stands-requires : tie.Need-stands-requires invariant-loop decreases-loop
 stands-requires c κs = omega arith
@@ -33,7 +33,7 @@ returns-2 : tie.Need-returns-2 invariant-loop decreases-loop
 returns-2 c =
     let at = c.before.before.before.before.before.loop in
     let other = sym c.before.stands.ensures ∙ not-true c.before.stands.result c.if2.true in
-    sym (at.invariant.1 ∙ match-fails _ _ at.k (omega arith) c.before.before.if1.false other)
+    sym (at.invariant.1 ∙ match_fails _ _ at.k (omega arith) c.before.before.if1.false other)
 
 add-k : tie.Need-overflow-add-k invariant-loop decreases-loop
 add-k c = omega arith
@@ -45,12 +45,12 @@ loop-again : tie.Need-loop-preserved invariant-loop decreases-loop
 loop-again c =
     let at = c.before.before.before.before.before.loop in
     let same = sym c.before.stands.ensures ∙ not-false c.before.stands.result c.if2.false in
-    (omega arith, at.invariant.1 ∙ match-goes-on _ _ at.k (omega arith) c.before.before.if1.false same)
+    (omega arith, at.invariant.1 ∙ match_goes_on _ _ at.k (omega arith) c.before.before.if1.false same)
 
 returns-3 : tie.Need-returns-3 invariant-loop decreases-loop
 returns-3 c =
     let at = c.before.loop in
-    sym (at.invariant.1 ∙ match-end _ _ at.k (omega arith))
+    sym (at.invariant.1 ∙ match_end _ _ at.k (omega arith))
 
 pub word-match-spec : {M : Type 1} → statement M
 word-match-spec =

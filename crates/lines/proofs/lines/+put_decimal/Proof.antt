@@ -24,17 +24,17 @@ abbrev below : ℕ → In 1 kinds.ps
 below t = and 1 kinds.ps (falls 1 kinds.ps ◌<◌ μ t) self.Pre
 
 module _ (t : ℕ) where
-  cast-out : lts.Need-overflow-cast-out (below t, self.Post) (given t) self.Post
-  cast-out c = search rules
+  cast_out : lts.Need-overflow-cast-out (below t, self.Post) (given t) self.Post
+  cast_out c = search rules
 
-  add-out : lts.Need-overflow-add-out (below t, self.Post) (given t) self.Post
-  add-out c = search rules
+  add_out : lts.Need-overflow-add-out (below t, self.Post) (given t) self.Post
+  add_out c = search rules
 
-  slice-write-out : lts.Need-slice-write-out (below t, self.Post) (given t) self.Post
-  slice-write-out c = omega (arith, c.before.before.requires.1, decimal_some c.before.before.args.number)
+  slice_write_out : lts.Need-slice-write-out (below t, self.Post) (given t) self.Post
+  slice_write_out c = omega (arith, c.before.before.requires.1, decimal_some c.before.before.args.number)
 
-  add-result : lts.Need-overflow-add-result (below t, self.Post) (given t) self.Post
-  add-result c = omega (arith, c.before.before.requires.1, decimal_some c.before.before.args.number, c.before.before.well-formed.0.0)
+  add_result : lts.Need-overflow-add-result (below t, self.Post) (given t) self.Post
+  add_result c = omega (arith, c.before.before.requires.1, decimal_some c.before.before.args.number, c.before.before.well-formed.0.0)
 
   same_length : lts.Need-same-length (below t, self.Post) (given t) self.Post
   same_length c = search rules
@@ -42,35 +42,35 @@ module _ (t : ℕ) where
   returns : lts.Need-returns (below t, self.Post) (given t) self.Post
   returns c = put_one _ _ _ c.if1.true
 
-  put-decimal-requires : lts.Need-put-decimal-requires (below t, self.Post) (given t) self.Post
-  put-decimal-requires c κs =
+  put_decimal_requires : lts.Need-put-decimal-requires (below t, self.Post) (given t) self.Post
+  put_decimal_requires c κs =
       let start = c.before.before.before in
       let more = c.before.if1.false in
       (omega (arith, start.requires.0, more), omega (arith, start.requires.1, decimal_length _ more))
 
-  cast-out-2 : lts.Need-overflow-cast-out-2 (below t, self.Post) (given t) self.Post
-  cast-out-2 c = search rules
+  cast_out_2 : lts.Need-overflow-cast-out-2 (below t, self.Post) (given t) self.Post
+  cast_out_2 c = search rules
 
-  add-out-2 : lts.Need-overflow-add-out-2 (below t, self.Post) (given t) self.Post
-  add-out-2 c = search rules
+  add_out_2 : lts.Need-overflow-add-out-2 (below t, self.Post) (given t) self.Post
+  add_out_2 c = search rules
 
-  slice-write-out-2 : lts.Need-slice-write-out-2 (below t, self.Post) (given t) self.Post
-  slice-write-out-2 c =
+  slice_write_out_2 : lts.Need-slice-write-out-2 (below t, self.Post) (given t) self.Post
+  slice_write_out_2 c =
       let start = c.before.before.before.before.before.before in
       let put = c.before.before.put-decimal.ensures in
       omega (arith, put.end, put_size put, start.requires.1, decimal_length _ c.before.before.before.before.if1.false)
 
-  add-result-2 : lts.Need-overflow-add-result-2 (below t, self.Post) (given t) self.Post
-  add-result-2 c =
+  add_result_2 : lts.Need-overflow-add-result-2 (below t, self.Post) (given t) self.Post
+  add_result_2 c =
       let start = c.before.before.before.before.before.before in
       let put = c.before.before.put-decimal.ensures in
       omega (arith, put.end, start.requires.1, start.well-formed.0.0, decimal_length _ c.before.before.before.before.if1.false)
 
-  same-length-2 : lts.Need-same-length-2 (below t, self.Post) (given t) self.Post
-  same-length-2 c = length-set c.before.before.put-decimal.new.0 _ _ ∙ put_size c.before.before.put-decimal.ensures
+  same_length_2 : lts.Need-same-length-2 (below t, self.Post) (given t) self.Post
+  same_length_2 c = length-set c.before.before.put-decimal.new.0 _ _ ∙ put_size c.before.before.put-decimal.ensures
 
-  returns-2 : lts.Need-returns-2 (below t, self.Post) (given t) self.Post
-  returns-2 c = put_last _ c.before.before.before.before.if1.false c.before.before.put-decimal.ensures
+  returns_2 : lts.Need-returns-2 (below t, self.Post) (given t) self.Post
+  returns_2 c = put_last _ c.before.before.before.before.if1.false c.before.before.put-decimal.ensures
 
 pub +put-decimal-spec : {M : Type 1} → statement M
 +put-decimal-spec =
@@ -80,16 +80,16 @@ pub +put-decimal-spec : {M : Type 1} → statement M
     (below t, self.Post)
     (given t)
     self.Post
-    (cast-out t)
-    (add-out t)
-    (slice-write-out t)
-    (add-result t)
+    (cast_out t)
+    (add_out t)
+    (slice_write_out t)
+    (add_result t)
     (same_length t)
     (returns t)
-    (put-decimal-requires t)
-    (cast-out-2 t)
-    (add-out-2 t)
-    (slice-write-out-2 t)
-    (add-result-2 t)
-    (same-length-2 t)
-    (returns-2 t))
+    (put_decimal_requires t)
+    (cast_out_2 t)
+    (add_out_2 t)
+    (slice_write_out_2 t)
+    (add_result_2 t)
+    (same_length_2 t)
+    (returns_2 t))

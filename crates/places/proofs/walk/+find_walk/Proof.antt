@@ -13,8 +13,8 @@ use Rattle.semantics.specs.Cycles.{some_from}
 use Rattle.traces.specs.Columns.{trace_of}
 use Rattle.tables.specs.Table.{standing}
 use Rattle.places.specs.Laid.{Laid, Walked, low_of, last_of}
-use Rattle.places.proofs.Loops.{low_last, walked_none, walked-turn}
-use Rattle.places.proofs.Walks.{lay-placed, few_cycles, some_cycles, root-rows, walkable-again, walkable-next, walkable-within, find_none, find-closed, find-open, laid-own, relaid, readded, refound, rewalked, walked-unneeded, walked-answer, walked-find, next_over, walked_next, walked-level, places_above, next_below}
+use Rattle.places.proofs.Loops.{low_last, walked_none, walked_turn}
+use Rattle.places.proofs.Walks.{lay_placed, few_cycles, some_cycles, root_rows, walkable_again, walkable_next, walkable_within, find_none, find_closed, find_open, laid_own, relaid, readded, refound, rewalked, walked_unneeded, walked_answer, walked_find, next_over, walked_next, walked_level, places_above, next_below}
 use Rattle.places.proofs.walk.find.Reads as find
 use Rattle.places.proofs.walk.find.Kinds as find-kinds
 use Rattle.places.proofs.walk.+find_walk.Lts-find as find-lts
@@ -98,198 +98,198 @@ abbrev walk_μ_loop : walk-lts.decreases-loop
 walk_μ_loop spot job best nodes reach columns₀ words₀ rows₀ left u moves last least₀ t₀ columns words rows least t = last + 1 - t
 
 module _ (m : ℕ) where
-  find-lay-requires : find-lts.Need-lay-requires (find_claims m) (find_at m) find.Post
-  find-lay-requires c κs =
+  find_lay_requires : find-lts.Need-lay-requires (find_claims m) (find_at m) find.Post
+  find_lay_requires c κs =
       let w = c.before.before.before.before.before.before.before.before.before.requires.1.0 in
       (w.laid.ready, (w.laid.tables, w.inside))
 
-  find-slice-aggregate-add : find-lts.Need-slice-aggregate-add (find_claims m) (find_at m) find.Post
-  find-slice-aggregate-add c = search rules
+  find_slice_aggregate_add : find-lts.Need-slice-aggregate-add (find_claims m) (find_at m) find.Post
+  find_slice_aggregate_add c = search rules
 
-  find-add-requires : find-lts.Need-add-requires (find_claims m) (find_at m) find.Post
-  find-add-requires c κs =
+  find_add_requires : find-lts.Need-add-requires (find_claims m) (find_at m) find.Post
+  find_add_requires c κs =
       let w = c.before.before.before.before.before.before.before.before.before.before.before.before.before.before.before.before.requires.1.0 in
-      (root-rows w (lay-placed w c.before.before.before.before.before.before.lay.ensures.0 c.before.before.before.before.before.before.lay.ensures.1 c.before.before.before.before.before.before.lay.auto.1.1.1.1.1.1.0) w.formulas.premise, few_cycles w, refl)
+      (root_rows w (lay_placed w c.before.before.before.before.before.before.lay.ensures.0 c.before.before.before.before.before.before.lay.ensures.1 c.before.before.before.before.before.before.lay.auto.1.1.1.1.1.1.0) w.formulas.premise, few_cycles w, refl)
 
-  find-is-premised-requires : find-lts.Need-is-premised-requires (find_claims m) (find_at m) find.Post
-  find-is-premised-requires c κs = search rules
+  find_is_premised_requires : find-lts.Need-is-premised-requires (find_claims m) (find_at m) find.Post
+  find_is_premised_requires c κs = search rules
 
-  find-same-length : find-lts.Need-same-length (find_claims m) (find_at m) find.Post
-  find-same-length c = search rules
+  find_same_length : find-lts.Need-same-length (find_claims m) (find_at m) find.Post
+  find_same_length c = search rules
 
-  find-same-length-2 : find-lts.Need-same-length-2 (find_claims m) (find_at m) find.Post
-  find-same-length-2 c = search rules
+  find_same_length_2 : find-lts.Need-same-length-2 (find_claims m) (find_at m) find.Post
+  find_same_length_2 c = search rules
 
-  find-returns : find-lts.Need-returns (find_claims m) (find_at m) find.Post
-  find-returns c =
+  find_returns : find-lts.Need-returns (find_claims m) (find_at m) find.Post
+  find_returns c =
       let w = c.before.before.before.before.before.before.before.before.before.before.before.before.before.before.before.before.before.before.before.before.requires.1.0 in
-      let p = lay-placed w c.before.before.before.before.before.before.before.before.before.before.lay.ensures.0 c.before.before.before.before.before.before.before.before.before.before.lay.ensures.1 c.before.before.before.before.before.before.before.before.before.before.lay.auto.1.1.1.1.1.1.0 in
+      let p = lay_placed w c.before.before.before.before.before.before.before.before.before.before.lay.ensures.0 c.before.before.before.before.before.before.before.before.before.before.lay.ensures.1 c.before.before.before.before.before.before.before.before.before.before.lay.auto.1.1.1.1.1.1.0 in
       let some = c.before.before.before.add in
       let none = ap (λ (x : Bool). eqb some.result 0 && x) (sym c.before.is-premised.ensures) ∙ c.if1.true in
       (p.laid, (c.before.before.before.before.before.before.before.before.before.before.before.before.before.before.before.before.before.before.before.before.requires.1.1, find_none w p some.result none some.ensures.1.1))
 
-  find-slice-aggregate-add-2 : find-lts.Need-slice-aggregate-add-2 (find_claims m) (find_at m) find.Post
-  find-slice-aggregate-add-2 c = search rules
+  find_slice_aggregate_add_2 : find-lts.Need-slice-aggregate-add-2 (find_claims m) (find_at m) find.Post
+  find_slice_aggregate_add_2 c = search rules
 
-  find-add-requires-2 : find-lts.Need-add-requires-2 (find_claims m) (find_at m) find.Post
-  find-add-requires-2 c κs =
+  find_add_requires_2 : find-lts.Need-add-requires-2 (find_claims m) (find_at m) find.Post
+  find_add_requires_2 c κs =
       let w = c.before.before.before.before.before.before.before.before.before.before.before.before.before.before.before.before.before.before.before.before.before.before.requires.1.0 in
-      (root-rows w (lay-placed w c.before.before.before.before.before.before.before.before.before.before.before.before.lay.ensures.0 c.before.before.before.before.before.before.before.before.before.before.before.before.lay.ensures.1 c.before.before.before.before.before.before.before.before.before.before.before.before.lay.auto.1.1.1.1.1.1.0) w.formulas.third, few_cycles w, refl)
+      (root_rows w (lay_placed w c.before.before.before.before.before.before.before.before.before.before.before.before.lay.ensures.0 c.before.before.before.before.before.before.before.before.before.before.before.before.lay.ensures.1 c.before.before.before.before.before.before.before.before.before.before.before.before.lay.auto.1.1.1.1.1.1.0) w.formulas.third, few_cycles w, refl)
 
-  find-clear-requires : find-lts.Need-clear-requires (find_claims m) (find_at m) find.Post
-  find-clear-requires c κs = search rules
+  find_clear_requires : find-lts.Need-clear-requires (find_claims m) (find_at m) find.Post
+  find_clear_requires c κs = search rules
 
-  find-slice-aggregate-search : find-lts.Need-slice-aggregate-search (find_claims m) (find_at m) find.Post
-  find-slice-aggregate-search c = search rules
+  find_slice_aggregate_search : find-lts.Need-slice-aggregate-search (find_claims m) (find_at m) find.Post
+  find_slice_aggregate_search c = search rules
 
-  find-slice-aggregate-search-2 : find-lts.Need-slice-aggregate-search-2 (find_claims m) (find_at m) find.Post
-  find-slice-aggregate-search-2 c = search rules
+  find_slice_aggregate_search_2 : find-lts.Need-slice-aggregate-search-2 (find_claims m) (find_at m) find.Post
+  find_slice_aggregate_search_2 c = search rules
 
-  find-search-requires : find-lts.Need-search-requires (find_claims m) (find_at m) find.Post
-  find-search-requires c κs =
+  find_search_requires : find-lts.Need-search-requires (find_claims m) (find_at m) find.Post
+  find_search_requires c κs =
       let w = c.before.before.before.before.before.before.before.before.before.before.before.before.before.before.before.before.before.before.before.before.before.before.before.before.before.before.before.before.before.before.before.requires.1.0 in
       let rows = ap length (c.before.before.before.before.before.clear.ensures ∙ ap (λ (k : ℕ). replicate k 0) c.before.before.before.before.before.before.before.before.before.before.before.before.before.before.before.before.before.before.before.before.before.before.before.before.before.before.before.before.before.before.before.requires.1.1) in
       ((few_cycles w, w.few), (omega (arith, c.before.before.before.before.before.before.before.before.before.before.before.before.before.before.add.ensures.0), omega (arith, c.before.before.before.before.before.before.before.before.add2.ensures.0), omega (arith, rows)))
 
-  find-same-length-3 : find-lts.Need-same-length-3 (find_claims m) (find_at m) find.Post
-  find-same-length-3 c = search rules
+  find_same_length_3 : find-lts.Need-same-length-3 (find_claims m) (find_at m) find.Post
+  find_same_length_3 c = search rules
 
-  find-same-length-4 : find-lts.Need-same-length-4 (find_claims m) (find_at m) find.Post
-  find-same-length-4 c = search rules
+  find_same_length_4 : find-lts.Need-same-length-4 (find_claims m) (find_at m) find.Post
+  find_same_length_4 c = search rules
 
-  find-same-length-5 : find-lts.Need-same-length-5 (find_claims m) (find_at m) find.Post
-  find-same-length-5 c = search rules
+  find_same_length_5 : find-lts.Need-same-length-5 (find_claims m) (find_at m) find.Post
+  find_same_length_5 c = search rules
 
-  find-returns-2 : find-lts.Need-returns-2 (find_claims m) (find_at m) find.Post
-  find-returns-2 c =
+  find_returns_2 : find-lts.Need-returns-2 (find_claims m) (find_at m) find.Post
+  find_returns_2 c =
       let w = c.before.before.before.before.before.before.before.before.before.before.before.before.before.before.before.before.before.before.before.before.before.before.before.before.before.before.before.before.before.before.before.before.before.requires.1.0 in
-      let p = lay-placed w c.before.before.before.before.before.before.before.before.before.before.before.before.before.before.before.before.before.before.before.before.before.before.before.lay.ensures.0 c.before.before.before.before.before.before.before.before.before.before.before.before.before.before.before.before.before.before.before.before.before.before.before.lay.ensures.1 c.before.before.before.before.before.before.before.before.before.before.before.before.before.before.before.before.before.before.before.before.before.before.before.lay.auto.1.1.1.1.1.1.0 in
+      let p = lay_placed w c.before.before.before.before.before.before.before.before.before.before.before.before.before.before.before.before.before.before.before.before.before.before.before.lay.ensures.0 c.before.before.before.before.before.before.before.before.before.before.before.before.before.before.before.before.before.before.before.before.before.before.before.lay.ensures.1 c.before.before.before.before.before.before.before.before.before.before.before.before.before.before.before.before.before.before.before.before.before.before.before.lay.auto.1.1.1.1.1.1.0 in
       let zero = c.before.before.before.before.before.before.before.clear.ensures ∙ ap (λ (k : ℕ). replicate k 0) c.before.before.before.before.before.before.before.before.before.before.before.before.before.before.before.before.before.before.before.before.before.before.before.before.before.before.before.before.before.before.before.before.before.requires.1.1 in
-      (p.laid, (ap length zero, find-closed w p c.before.before.before.before.before.before.before.before.before.before.before.before.before.before.before.before.add.ensures.1.0 c.before.before.before.before.before.before.before.before.before.before.add2.ensures.1.0 zero c.if2.true c.before.search.ensures))
+      (p.laid, (ap length zero, find_closed w p c.before.before.before.before.before.before.before.before.before.before.before.before.before.before.before.before.add.ensures.1.0 c.before.before.before.before.before.before.before.before.before.before.add2.ensures.1.0 zero c.if2.true c.before.search.ensures))
 
-  find-walk-requires : find-lts.Need-walk-requires (find_claims m) (find_at m) find.Post
-  find-walk-requires c κs =
+  find_walk_requires : find-lts.Need-walk-requires (find_claims m) (find_at m) find.Post
+  find_walk_requires c κs =
       let w = c.before.before.before.before.before.before.before.before.before.before.before.before.before.before.before.before.before.before.before.before.before.before.before.before.before.before.before.before.before.before.before.before.before.before.before.before.requires.1.0 in
-      let p = lay-placed w c.before.before.before.before.before.before.before.before.before.before.before.before.before.before.before.before.before.before.before.before.before.before.before.before.before.before.lay.ensures.0 c.before.before.before.before.before.before.before.before.before.before.before.before.before.before.before.before.before.before.before.before.before.before.before.before.before.before.lay.ensures.1 c.before.before.before.before.before.before.before.before.before.before.before.before.before.before.before.before.before.before.before.before.before.before.before.before.before.before.lay.auto.1.1.1.1.1.1.0 in
-      (omega (arith, c.before.before.before.before.before.before.before.before.before.before.before.before.before.before.before.before.before.before.before.before.before.before.before.before.before.before.before.before.before.before.before.before.before.before.before.before.requires.0), (walkable-within w p, ap length (c.before.before.before.before.before.before.before.before.before.before.clear.ensures ∙ ap (λ (k : ℕ). replicate k 0) c.before.before.before.before.before.before.before.before.before.before.before.before.before.before.before.before.before.before.before.before.before.before.before.before.before.before.before.before.before.before.before.before.before.before.before.before.requires.1.1)))
+      let p = lay_placed w c.before.before.before.before.before.before.before.before.before.before.before.before.before.before.before.before.before.before.before.before.before.before.before.before.before.before.lay.ensures.0 c.before.before.before.before.before.before.before.before.before.before.before.before.before.before.before.before.before.before.before.before.before.before.before.before.before.before.lay.ensures.1 c.before.before.before.before.before.before.before.before.before.before.before.before.before.before.before.before.before.before.before.before.before.before.before.before.before.before.lay.auto.1.1.1.1.1.1.0 in
+      (omega (arith, c.before.before.before.before.before.before.before.before.before.before.before.before.before.before.before.before.before.before.before.before.before.before.before.before.before.before.before.before.before.before.before.before.before.before.before.before.requires.0), (walkable_within w p, ap length (c.before.before.before.before.before.before.before.before.before.before.clear.ensures ∙ ap (λ (k : ℕ). replicate k 0) c.before.before.before.before.before.before.before.before.before.before.before.before.before.before.before.before.before.before.before.before.before.before.before.before.before.before.before.before.before.before.before.before.before.before.before.before.requires.1.1)))
 
-  find-slice-aggregate-search-3 : find-lts.Need-slice-aggregate-search-3 (find_claims m) (find_at m) find.Post
-  find-slice-aggregate-search-3 c = search rules
+  find_slice_aggregate_search_3 : find-lts.Need-slice-aggregate-search-3 (find_claims m) (find_at m) find.Post
+  find_slice_aggregate_search_3 c = search rules
 
-  find-slice-aggregate-search-4 : find-lts.Need-slice-aggregate-search-4 (find_claims m) (find_at m) find.Post
-  find-slice-aggregate-search-4 c = search rules
+  find_slice_aggregate_search_4 : find-lts.Need-slice-aggregate-search-4 (find_claims m) (find_at m) find.Post
+  find_slice_aggregate_search_4 c = search rules
 
-  find-search-requires-2 : find-lts.Need-search-requires-2 (find_claims m) (find_at m) find.Post
-  find-search-requires-2 c κs =
+  find_search_requires_2 : find-lts.Need-search-requires-2 (find_claims m) (find_at m) find.Post
+  find_search_requires_2 c κs =
       let w = c.before.before.before.before.before.before.before.before.before.before.before.before.before.before.before.before.before.before.before.before.before.before.before.before.before.before.before.before.before.before.before.before.before.before.before.before.before.before.before.before.before.before.before.before.before.before.requires.1.0 in
       ((few_cycles w, w.few), (omega (arith, c.before.before.before.before.before.before.before.before.before.before.before.before.before.before.before.before.before.before.before.before.before.before.before.before.before.before.before.before.before.add.ensures.0), omega (arith, c.before.before.before.before.before.before.before.before.before.before.before.before.before.before.before.before.before.before.before.before.before.before.before.add2.ensures.0), omega (arith, c.before.before.before.before.before.before.before.before.before.walk.ensures.1.0)))
 
-  find-same-length-6 : find-lts.Need-same-length-6 (find_claims m) (find_at m) find.Post
-  find-same-length-6 c = c.before.before.before.before.before.before.before.before.before.before.walk.auto.1.1.1.1.1.0 ∙ c.before.before.before.before.before.before.before.before.before.before.before.before.before.before.before.before.before.before.before.before.before.before.before.before.before.before.before.before.before.before.before.before.before.before.before.before.before.lay.auto.1.1.1.1.1.0
+  find_same_length_6 : find-lts.Need-same-length-6 (find_claims m) (find_at m) find.Post
+  find_same_length_6 c = c.before.before.before.before.before.before.before.before.before.before.walk.auto.1.1.1.1.1.0 ∙ c.before.before.before.before.before.before.before.before.before.before.before.before.before.before.before.before.before.before.before.before.before.before.before.before.before.before.before.before.before.before.before.before.before.before.before.before.before.lay.auto.1.1.1.1.1.0
 
-  find-same-length-7 : find-lts.Need-same-length-7 (find_claims m) (find_at m) find.Post
-  find-same-length-7 c = c.before.before.before.before.before.before.before.before.before.before.walk.auto.1.1.1.1.1.1.0 ∙ c.before.before.before.before.before.before.before.before.before.before.before.before.before.before.before.before.before.before.before.before.before.before.before.before.before.before.before.before.before.before.before.before.before.before.before.before.before.lay.auto.1.1.1.1.1.1.0
+  find_same_length_7 : find-lts.Need-same-length-7 (find_claims m) (find_at m) find.Post
+  find_same_length_7 c = c.before.before.before.before.before.before.before.before.before.before.walk.auto.1.1.1.1.1.1.0 ∙ c.before.before.before.before.before.before.before.before.before.before.before.before.before.before.before.before.before.before.before.before.before.before.before.before.before.before.before.before.before.before.before.before.before.before.before.before.before.lay.auto.1.1.1.1.1.1.0
 
-  find-same-length-8 : find-lts.Need-same-length-8 (find_claims m) (find_at m) find.Post
-  find-same-length-8 c = search rules
+  find_same_length_8 : find-lts.Need-same-length-8 (find_claims m) (find_at m) find.Post
+  find_same_length_8 c = search rules
 
-  find-returns-3 : find-lts.Need-returns-3 (find_claims m) (find_at m) find.Post
-  find-returns-3 c =
+  find_returns_3 : find-lts.Need-returns-3 (find_claims m) (find_at m) find.Post
+  find_returns_3 c =
       let w = c.before.before.before.before.before.before.before.before.before.before.before.before.before.before.before.before.before.before.before.before.before.before.before.before.before.before.before.before.before.before.before.before.before.before.before.before.before.before.before.before.before.before.before.before.before.before.before.requires.1.0 in
-      let p = lay-placed w c.before.before.before.before.before.before.before.before.before.before.before.before.before.before.before.before.before.before.before.before.before.before.before.before.before.before.before.before.before.before.before.before.before.before.before.before.before.lay.ensures.0 c.before.before.before.before.before.before.before.before.before.before.before.before.before.before.before.before.before.before.before.before.before.before.before.before.before.before.before.before.before.before.before.before.before.before.before.before.before.lay.ensures.1 c.before.before.before.before.before.before.before.before.before.before.before.before.before.before.before.before.before.before.before.before.before.before.before.before.before.before.before.before.before.before.before.before.before.before.before.before.before.lay.auto.1.1.1.1.1.1.0 in
+      let p = lay_placed w c.before.before.before.before.before.before.before.before.before.before.before.before.before.before.before.before.before.before.before.before.before.before.before.before.before.before.before.before.before.before.before.before.before.before.before.before.before.lay.ensures.0 c.before.before.before.before.before.before.before.before.before.before.before.before.before.before.before.before.before.before.before.before.before.before.before.before.before.before.before.before.before.before.before.before.before.before.before.before.before.lay.ensures.1 c.before.before.before.before.before.before.before.before.before.before.before.before.before.before.before.before.before.before.before.before.before.before.before.before.before.before.before.before.before.before.before.before.before.before.before.before.before.lay.auto.1.1.1.1.1.1.0 in
       let walked = c.before.before.before.before.before.before.before.before.before.before.walk.ensures in (
         relaid p.laid walked.0,
-        (walked.1.0, find-open w p c.before.before.before.before.before.before.before.before.before.before.before.before.before.before.before.before.before.before.before.before.before.before.before.before.before.before.before.before.before.before.add.ensures.1.0 c.before.before.before.before.before.before.before.before.before.before.before.before.before.before.before.before.before.before.before.before.before.before.before.before.add2.ensures.1.0 (c.before.before.before.before.before.before.before.before.before.before.before.before.before.before.before.before.before.before.before.before.before.clear.ensures ∙ ap (λ (k : ℕ). replicate k 0) c.before.before.before.before.before.before.before.before.before.before.before.before.before.before.before.before.before.before.before.before.before.before.before.before.before.before.before.before.before.before.before.before.before.before.before.before.before.before.before.before.before.before.before.before.before.before.before.requires.1.1) walked.1.1 c.search2.ensures),
+        (walked.1.0, find_open w p c.before.before.before.before.before.before.before.before.before.before.before.before.before.before.before.before.before.before.before.before.before.before.before.before.before.before.before.before.before.before.add.ensures.1.0 c.before.before.before.before.before.before.before.before.before.before.before.before.before.before.before.before.before.before.before.before.before.before.before.before.add2.ensures.1.0 (c.before.before.before.before.before.before.before.before.before.before.before.before.before.before.before.before.before.before.before.before.before.clear.ensures ∙ ap (λ (k : ℕ). replicate k 0) c.before.before.before.before.before.before.before.before.before.before.before.before.before.before.before.before.before.before.before.before.before.before.before.before.before.before.before.before.before.before.before.before.before.before.before.before.before.before.before.before.before.before.before.before.before.before.before.requires.1.1) walked.1.1 c.search2.ensures),
       )
 
-  walk-hopeless-requires : walk-lts.Need-hopeless-requires (walk_claims m) (walk_at m) walk.Post walk_inv_loop walk_μ_loop
-  walk-hopeless-requires c κs = c.before.before.before.before.before.before.before.requires.1.0
+  walk_hopeless_requires : walk-lts.Need-hopeless-requires (walk_claims m) (walk_at m) walk.Post walk_inv_loop walk_μ_loop
+  walk_hopeless_requires c κs = c.before.before.before.before.before.before.before.requires.1.0
 
-  walk-same-length : walk-lts.Need-same-length (walk_claims m) (walk_at m) walk.Post walk_inv_loop walk_μ_loop
-  walk-same-length c = search rules
+  walk_same_length : walk-lts.Need-same-length (walk_claims m) (walk_at m) walk.Post walk_inv_loop walk_μ_loop
+  walk_same_length c = search rules
 
-  walk-same-length-2 : walk-lts.Need-same-length-2 (walk_claims m) (walk_at m) walk.Post walk_inv_loop walk_μ_loop
-  walk-same-length-2 c = search rules
+  walk_same_length_2 : walk-lts.Need-same-length-2 (walk_claims m) (walk_at m) walk.Post walk_inv_loop walk_μ_loop
+  walk_same_length_2 c = search rules
 
-  walk-returns : walk-lts.Need-returns (walk_claims m) (walk_at m) walk.Post walk_inv_loop walk_μ_loop
-  walk-returns c =
+  walk_returns : walk-lts.Need-returns (walk_claims m) (walk_at m) walk.Post walk_inv_loop walk_μ_loop
+  walk_returns c =
       let a = c.before.before.before.before.before.before.before.before.before.before.before.before.before.args in
       let h = c.before.before.before.before.before.hopeless.ensures in
-      (h.0, (c.before.before.before.before.before.before.before.before.before.before.before.before.before.requires.1.1, walked-unneeded a.job a.nodes.now _ a.spot (h.1 c.if1.true)))
+      (h.0, (c.before.before.before.before.before.before.before.before.before.before.before.before.before.requires.1.1, walked_unneeded a.job a.nodes.now _ a.spot (h.1 c.if1.true)))
 
-  walk-answer-requires : walk-lts.Need-answer-requires (walk_claims m) (walk_at m) walk.Post walk_inv_loop walk_μ_loop
-  walk-answer-requires c κs = (walkable-again c.before.before.before.before.before.before.before.before.before.before.before.before.before.before.before.before.before.before.requires.1.0 c.before.before.before.before.before.before.before.before.before.before.hopeless.ensures.0, c.before.before.before.before.before.before.before.before.before.before.before.before.before.before.before.before.before.before.requires.1.1)
+  walk_answer_requires : walk-lts.Need-answer-requires (walk_claims m) (walk_at m) walk.Post walk_inv_loop walk_μ_loop
+  walk_answer_requires c κs = (walkable_again c.before.before.before.before.before.before.before.before.before.before.before.before.before.before.before.before.before.before.requires.1.0 c.before.before.before.before.before.before.before.before.before.before.hopeless.ensures.0, c.before.before.before.before.before.before.before.before.before.before.before.before.before.before.before.before.before.before.requires.1.1)
 
-  walk-same-length-3 : walk-lts.Need-same-length-3 (walk_claims m) (walk_at m) walk.Post walk_inv_loop walk_μ_loop
-  walk-same-length-3 c = search rules
+  walk_same_length_3 : walk-lts.Need-same-length-3 (walk_claims m) (walk_at m) walk.Post walk_inv_loop walk_μ_loop
+  walk_same_length_3 c = search rules
 
-  walk-same-length-4 : walk-lts.Need-same-length-4 (walk_claims m) (walk_at m) walk.Post walk_inv_loop walk_μ_loop
-  walk-same-length-4 c = search rules
+  walk_same_length_4 : walk-lts.Need-same-length-4 (walk_claims m) (walk_at m) walk.Post walk_inv_loop walk_μ_loop
+  walk_same_length_4 c = search rules
 
-  walk-same-length-5 : walk-lts.Need-same-length-5 (walk_claims m) (walk_at m) walk.Post walk_inv_loop walk_μ_loop
-  walk-same-length-5 c = search rules
+  walk_same_length_5 : walk-lts.Need-same-length-5 (walk_claims m) (walk_at m) walk.Post walk_inv_loop walk_μ_loop
+  walk_same_length_5 c = search rules
 
-  walk-returns-2 : walk-lts.Need-returns-2 (walk_claims m) (walk_at m) walk.Post walk_inv_loop walk_μ_loop
-  walk-returns-2 c =
+  walk_returns_2 : walk-lts.Need-returns-2 (walk_claims m) (walk_at m) walk.Post walk_inv_loop walk_μ_loop
+  walk_returns_2 c =
       let a = c.before.before.before.before.before.before.before.before.before.before.before.before.before.before.before.before.before.before.before.before.before.before.before.before.before.args in
       let h = c.before.before.before.before.before.before.before.before.before.before.before.before.before.before.before.before.before.hopeless.ensures.0 in
       let r = c.before.before.before.before.before.before.answer.ensures in
       let added = readded h a.job.task (standing a.spot.cycles) r.1.1 in
-      (relaid h r.0, (r.1.0, walked-answer a.job a.nodes.now _ a.spot c.before.before.before.before.before.before.before.before.before.before.before.if2.true c.before.before.before.before.before.before.before.before.before.before.if3.true added))
+      (relaid h r.0, (r.1.0, walked_answer a.job a.nodes.now _ a.spot c.before.before.before.before.before.before.before.before.before.before.before.if2.true c.before.before.before.before.before.before.before.before.before.before.if3.true added))
 
-  walk-find-requires : walk-lts.Need-find-requires (walk_claims m) (walk_at m) walk.Post walk_inv_loop walk_μ_loop
-  walk-find-requires c κs =
+  walk_find_requires : walk-lts.Need-find-requires (walk_claims m) (walk_at m) walk.Post walk_inv_loop walk_μ_loop
+  walk_find_requires c κs =
       let p = c.before.before.before.before.before.before.before.before.before.before.before.before.before.before.before.before.before.before.requires in
       let a = c.before.before.before.before.before.before.before.before.before.before.before.before.before.before.before.before.before.before.args in
-      (places_above a.spot.left m a.job.answering c.before.before.before.if3.false p.0, (walkable-again p.1.0 c.before.before.before.before.before.before.before.before.before.before.hopeless.ensures.0, p.1.1))
+      (places_above a.spot.left m a.job.answering c.before.before.before.if3.false p.0, (walkable_again p.1.0 c.before.before.before.before.before.before.before.before.before.before.hopeless.ensures.0, p.1.1))
 
-  walk-same-length-6 : walk-lts.Need-same-length-6 (walk_claims m) (walk_at m) walk.Post walk_inv_loop walk_μ_loop
-  walk-same-length-6 c = search rules
+  walk_same_length_6 : walk-lts.Need-same-length-6 (walk_claims m) (walk_at m) walk.Post walk_inv_loop walk_μ_loop
+  walk_same_length_6 c = search rules
 
-  walk-same-length-7 : walk-lts.Need-same-length-7 (walk_claims m) (walk_at m) walk.Post walk_inv_loop walk_μ_loop
-  walk-same-length-7 c = search rules
+  walk_same_length_7 : walk-lts.Need-same-length-7 (walk_claims m) (walk_at m) walk.Post walk_inv_loop walk_μ_loop
+  walk_same_length_7 c = search rules
 
-  walk-same-length-8 : walk-lts.Need-same-length-8 (walk_claims m) (walk_at m) walk.Post walk_inv_loop walk_μ_loop
-  walk-same-length-8 c = search rules
+  walk_same_length_8 : walk-lts.Need-same-length-8 (walk_claims m) (walk_at m) walk.Post walk_inv_loop walk_μ_loop
+  walk_same_length_8 c = search rules
 
-  walk-returns-3 : walk-lts.Need-returns-3 (walk_claims m) (walk_at m) walk.Post walk_inv_loop walk_μ_loop
-  walk-returns-3 c =
+  walk_returns_3 : walk-lts.Need-returns-3 (walk_claims m) (walk_at m) walk.Post walk_inv_loop walk_μ_loop
+  walk_returns_3 c =
       let a = c.before.before.before.before.before.before.before.before.before.before.before.before.before.before.before.before.before.before.before.before.before.before.before.before.before.args in
       let h = c.before.before.before.before.before.before.before.before.before.before.before.before.before.before.before.before.before.hopeless.ensures.0 in
       let r = c.before.before.before.before.before.before.find.ensures in
       let found = refound h a.job.task (standing a.spot.cycles) r.1.1 in
-      (relaid h r.0, (r.1.0, walked-find a.job a.nodes.now _ a.spot c.before.before.before.before.before.before.before.before.before.before.before.if2.true c.before.before.before.before.before.before.before.before.before.before.if3.false found))
+      (relaid h r.0, (r.1.0, walked_find a.job a.nodes.now _ a.spot c.before.before.before.before.before.before.before.before.before.before.before.if2.true c.before.before.before.before.before.before.before.before.before.before.if3.false found))
 
-  walk-sub-u : walk-lts.Need-overflow-sub-u (walk_claims m) (walk_at m) walk.Post walk_inv_loop walk_μ_loop
-  walk-sub-u c = search rules
+  walk_sub_u : walk-lts.Need-overflow-sub-u (walk_claims m) (walk_at m) walk.Post walk_inv_loop walk_μ_loop
+  walk_sub_u c = search rules
 
-  walk-has-name-requires : walk-lts.Need-has-name-requires (walk_claims m) (walk_at m) walk.Post walk_inv_loop walk_μ_loop
-  walk-has-name-requires c κs = search rules
+  walk_has_name_requires : walk-lts.Need-has-name-requires (walk_claims m) (walk_at m) walk.Post walk_inv_loop walk_μ_loop
+  walk_has_name_requires c κs = search rules
 
-  walk-sub-choose : walk-lts.Need-overflow-sub-choose (walk_claims m) (walk_at m) walk.Post walk_inv_loop walk_μ_loop
-  walk-sub-choose c = omega (arith, some_cycles c.before.before.before.before.before.before.before.before.before.before.before.before.before.before.before.before.before.requires.1.0)
+  walk_sub_choose : walk-lts.Need-overflow-sub-choose (walk_claims m) (walk_at m) walk.Post walk_inv_loop walk_μ_loop
+  walk_sub_choose c = omega (arith, some_cycles c.before.before.before.before.before.before.before.before.before.before.before.before.before.before.before.before.before.requires.1.0)
 
-  walk-mul-choose : walk-lts.Need-overflow-mul-choose (walk_claims m) (walk_at m) walk.Post walk_inv_loop walk_μ_loop
-  walk-mul-choose c = search rules
+  walk_mul_choose : walk-lts.Need-overflow-mul-choose (walk_claims m) (walk_at m) walk.Post walk_inv_loop walk_μ_loop
+  walk_mul_choose c = search rules
 
-  walk-array-read-choose : walk-lts.Need-array-read-choose (walk_claims m) (walk_at m) walk.Post walk_inv_loop walk_μ_loop
-  walk-array-read-choose c = search rules
+  walk_array_read_choose : walk-lts.Need-array-read-choose (walk_claims m) (walk_at m) walk.Post walk_inv_loop walk_μ_loop
+  walk_array_read_choose c = search rules
 
-  walk-choose-requires : walk-lts.Need-choose-requires (walk_claims m) (walk_at m) walk.Post walk_inv_loop walk_μ_loop
-  walk-choose-requires c κs = search rules
+  walk_choose_requires : walk-lts.Need-choose-requires (walk_claims m) (walk_at m) walk.Post walk_inv_loop walk_μ_loop
+  walk_choose_requires c κs = search rules
 
-  walk-mul-choose-2 : walk-lts.Need-overflow-mul-choose-2 (walk_claims m) (walk_at m) walk.Post walk_inv_loop walk_μ_loop
-  walk-mul-choose-2 c = search rules
+  walk_mul_choose_2 : walk-lts.Need-overflow-mul-choose-2 (walk_claims m) (walk_at m) walk.Post walk_inv_loop walk_μ_loop
+  walk_mul_choose_2 c = search rules
 
-  walk-array-read-choose-2 : walk-lts.Need-array-read-choose-2 (walk_claims m) (walk_at m) walk.Post walk_inv_loop walk_μ_loop
-  walk-array-read-choose-2 c = search rules
+  walk_array_read_choose_2 : walk-lts.Need-array-read-choose-2 (walk_claims m) (walk_at m) walk.Post walk_inv_loop walk_μ_loop
+  walk_array_read_choose_2 c = search rules
 
-  walk-choose-requires-2 : walk-lts.Need-choose-requires-2 (walk_claims m) (walk_at m) walk.Post walk_inv_loop walk_μ_loop
-  walk-choose-requires-2 c κs = search rules
+  walk_choose_requires_2 : walk-lts.Need-choose-requires-2 (walk_claims m) (walk_at m) walk.Post walk_inv_loop walk_μ_loop
+  walk_choose_requires_2 c κs = search rules
 
-  walk-loop-holds : walk-lts.Need-loop-init (walk_claims m) (walk_at m) walk.Post walk_inv_loop walk_μ_loop
+  walk_loop_holds : walk-lts.Need-loop-init (walk_claims m) (walk_at m) walk.Post walk_inv_loop walk_μ_loop
   unfolding standing
-  walk-loop-holds c =
+  walk_loop_holds c =
       let w = c.before.before.before.before.before.before.before.before.before.before.before.before.before.before.before.before.before.before.before.requires.1.0 in
       let a = c.before.before.before.before.before.before.before.before.before.before.before.before.before.before.before.before.before.before.before.args in
       let u = 3 - a.spot.left in
@@ -299,7 +299,7 @@ module _ (m : ℕ) where
       let low = c.choose2.ensures in
       let last = c.before.choose.ensures in
       let h = c.before.before.before.before.before.before.before.before.before.before.before.hopeless.ensures.0 in (
-        laid-own h,
+        laid_own h,
         refl,
         refl,
         c.before.before.before.before.before.before.before.before.before.before.before.before.before.before.before.before.before.before.before.requires.1.1,
@@ -308,12 +308,12 @@ module _ (m : ℕ) where
         walked_none a.job a.nodes.now _ a.best _ a.rows.now _,
       )
 
-  walk-onto-requires : walk-lts.Need-onto-requires (walk_claims m) (walk_at m) walk.Post walk_inv_loop walk_μ_loop
-  walk-onto-requires c κs = omega (arith, c.before.before.before.before.before.before.before.before.before.before.before.before.before.before.before.before.before.before.before.before.before.requires.1.0.three, c.before.before.before.before.before.before.before.if2.false)
+  walk_onto_requires : walk-lts.Need-onto-requires (walk_claims m) (walk_at m) walk.Post walk_inv_loop walk_μ_loop
+  walk_onto_requires c κs = omega (arith, c.before.before.before.before.before.before.before.before.before.before.before.before.before.before.before.before.before.before.before.before.before.requires.1.0.three, c.before.before.before.before.before.before.before.if2.false)
 
-  walk-walk-requires : walk-lts.Need-walk-requires (walk_claims m) (walk_at m) walk.Post walk_inv_loop walk_μ_loop
+  walk_walk_requires : walk-lts.Need-walk-requires (walk_claims m) (walk_at m) walk.Post walk_inv_loop walk_μ_loop
   unfolding standing
-  walk-walk-requires c κs =
+  walk_walk_requires c κs =
       let w = c.before.before.before.before.before.before.before.before.before.before.before.before.before.before.before.before.before.before.before.before.before.before.before.before.before.requires.1.0 in
       let a = c.before.before.before.before.before.before.before.before.before.before.before.before.before.before.before.before.before.before.before.before.before.before.before.before.before.args in
       let u = 3 - a.spot.left in
@@ -327,12 +327,12 @@ module _ (m : ℕ) where
       let next = c.before.before.before.onto in
       let cycle : l.t < a.job.n = omega (arith, range.1, last, c.before.before.before.before.loop-test.true) in (
         next_below a.spot next.result l.t _ m next.ensures some c.before.before.before.before.before.before.before.before.before.before.before.before.before.before.before.before.before.before.before.before.before.before.before.before.before.requires.0,
-        (walkable-next w l.least l.t next.result next.ensures l.invariant.0 l.invariant.6.most (omega (arith, some)) cycle, l.invariant.3),
+        (walkable_next w l.least l.t next.result next.ensures l.invariant.0 l.invariant.6.most (omega (arith, some)) cycle, l.invariant.3),
       )
 
-  walk-add-t : walk-lts.Need-overflow-add-t (walk_claims m) (walk_at m) walk.Post walk_inv_loop walk_μ_loop
+  walk_add_t : walk-lts.Need-overflow-add-t (walk_claims m) (walk_at m) walk.Post walk_inv_loop walk_μ_loop
   unfolding standing
-  walk-add-t c =
+  walk_add_t c =
       let w = c.before.before.before.before.before.before.before.before.before.before.before.before.before.before.before.before.before.before.before.before.before.before.before.before.before.before.before.before.before.before.before.before.requires.1.0 in
       let a = c.before.before.before.before.before.before.before.before.before.before.before.before.before.before.before.before.before.before.before.before.before.before.before.before.before.before.before.before.before.before.before.before.args in
       let u = 3 - a.spot.left in
@@ -343,11 +343,11 @@ module _ (m : ℕ) where
       let last = c.before.before.before.before.before.before.before.before.before.before.before.before.before.before.choose.ensures in
       omega (arith, range.1, last, c.before.before.before.before.before.before.before.before.before.before.before.loop-test.true, few_cycles w)
 
-  walk-loop-less : walk-lts.Need-loop-smaller (walk_claims m) (walk_at m) walk.Post walk_inv_loop walk_μ_loop
-  walk-loop-less c = search rules
+  walk_loop_less : walk-lts.Need-loop-smaller (walk_claims m) (walk_at m) walk.Post walk_inv_loop walk_μ_loop
+  walk_loop_less c = search rules
 
-  walk-loop-again : walk-lts.Need-loop-preserved (walk_claims m) (walk_at m) walk.Post walk_inv_loop walk_μ_loop
-  walk-loop-again c =
+  walk_loop_again : walk-lts.Need-loop-preserved (walk_claims m) (walk_at m) walk.Post walk_inv_loop walk_μ_loop
+  walk_loop_again c =
       let a = c.before.before.before.before.before.before.before.before.before.before.before.before.before.before.before.before.before.before.before.before.before.before.before.before.before.before.before.before.before.before.before.before.args in
       let l = c.before.before.before.before.before.before.before.before.before.before.before.before.loop in
       let r = c.before.before.before.before.before.before.walk in
@@ -358,22 +358,22 @@ module _ (m : ℕ) where
         r.ensures.1.0,
         omega (arith, l.invariant.4),
         omega (arith, c.before.before.before.before.before.before.before.before.before.before.before.loop-test.true),
-        walked-turn a.job a.nodes.now _ _ l.t over l.invariant.4 l.invariant.6
+        walked_turn a.job a.nodes.now _ _ l.t over l.invariant.4 l.invariant.6
             (walked_next a.job a.nodes.now _ a.spot l.t c.before.before.before.before.before.before.before.before.before.before.onto.ensures (rewalked l.invariant.0 a.job _ r.ensures.1.1)),
       )
 
-  walk-same-length-9 : walk-lts.Need-same-length-9 (walk_claims m) (walk_at m) walk.Post walk_inv_loop walk_μ_loop
-  walk-same-length-9 c = search rules
+  walk_same_length_9 : walk-lts.Need-same-length-9 (walk_claims m) (walk_at m) walk.Post walk_inv_loop walk_μ_loop
+  walk_same_length_9 c = search rules
 
-  walk-same-length-10 : walk-lts.Need-same-length-10 (walk_claims m) (walk_at m) walk.Post walk_inv_loop walk_μ_loop
-  walk-same-length-10 c = search rules
+  walk_same_length_10 : walk-lts.Need-same-length-10 (walk_claims m) (walk_at m) walk.Post walk_inv_loop walk_μ_loop
+  walk_same_length_10 c = search rules
 
-  walk-same-length-11 : walk-lts.Need-same-length-11 (walk_claims m) (walk_at m) walk.Post walk_inv_loop walk_μ_loop
-  walk-same-length-11 c = omega (arith, c.before.loop.invariant.3, c.before.before.before.before.before.before.before.before.before.before.before.before.before.before.before.before.before.before.before.before.before.requires.1.1)
+  walk_same_length_11 : walk-lts.Need-same-length-11 (walk_claims m) (walk_at m) walk.Post walk_inv_loop walk_μ_loop
+  walk_same_length_11 c = omega (arith, c.before.loop.invariant.3, c.before.before.before.before.before.before.before.before.before.before.before.before.before.before.before.before.before.before.before.before.before.requires.1.1)
 
-  walk-returns-4 : walk-lts.Need-returns-4 (walk_claims m) (walk_at m) walk.Post walk_inv_loop walk_μ_loop
+  walk_returns_4 : walk-lts.Need-returns-4 (walk_claims m) (walk_at m) walk.Post walk_inv_loop walk_μ_loop
   unfolding standing
-  walk-returns-4 c =
+  walk_returns_4 c =
       let w = c.before.before.before.before.before.before.before.before.before.before.before.before.before.before.before.before.before.before.before.before.before.requires.1.0 in
       let a = c.before.before.before.before.before.before.before.before.before.before.before.before.before.before.before.before.before.before.before.before.before.args in
       let u = 3 - a.spot.left in
@@ -389,7 +389,7 @@ module _ (m : ℕ) where
         relaid h l.invariant.0,
         (
           l.invariant.3,
-          walked-level a.job a.nodes.now _ a.spot w.long (omega (arith, some)) w.three (some_cycles w)
+          walked_level a.job a.nodes.now _ a.spot w.long (omega (arith, some)) w.three (some_cycles w)
               (low ∙ ap (λ (x : Bool). low_of x at) named) (last ∙ ap (λ (x : Bool). last_of x a.job.n at) named) (omega (arith, l.invariant.5, c.loop-test.false))
               (rewalked h a.job _ l.invariant.6),
         ),
@@ -399,6 +399,6 @@ pub +find-walk-spec : {M : Type 1} → statement M
 +find-walk-spec =
     close μ_find μ_walk
     (λ m. find-lts.spec (find_claims m) (find_at m) find.Post
-    (find-lay-requires m) (find-slice-aggregate-add m) (find-add-requires m) (find-is-premised-requires m) (find-same-length m) (find-same-length-2 m) (find-returns m) (find-slice-aggregate-add-2 m) (find-add-requires-2 m) (find-clear-requires m) (find-slice-aggregate-search m) (find-slice-aggregate-search-2 m) (find-search-requires m) (find-same-length-3 m) (find-same-length-4 m) (find-same-length-5 m) (find-returns-2 m) (find-walk-requires m) (find-slice-aggregate-search-3 m) (find-slice-aggregate-search-4 m) (find-search-requires-2 m) (find-same-length-6 m) (find-same-length-7 m) (find-same-length-8 m) (find-returns-3 m))
+    (find_lay_requires m) (find_slice_aggregate_add m) (find_add_requires m) (find_is_premised_requires m) (find_same_length m) (find_same_length_2 m) (find_returns m) (find_slice_aggregate_add_2 m) (find_add_requires_2 m) (find_clear_requires m) (find_slice_aggregate_search m) (find_slice_aggregate_search_2 m) (find_search_requires m) (find_same_length_3 m) (find_same_length_4 m) (find_same_length_5 m) (find_returns_2 m) (find_walk_requires m) (find_slice_aggregate_search_3 m) (find_slice_aggregate_search_4 m) (find_search_requires_2 m) (find_same_length_6 m) (find_same_length_7 m) (find_same_length_8 m) (find_returns_3 m))
     (λ m. walk-lts.spec (walk_claims m) (walk_at m) walk.Post walk_inv_loop walk_μ_loop
-    (walk-hopeless-requires m) (walk-same-length m) (walk-same-length-2 m) (walk-returns m) (walk-answer-requires m) (walk-same-length-3 m) (walk-same-length-4 m) (walk-same-length-5 m) (walk-returns-2 m) (walk-find-requires m) (walk-same-length-6 m) (walk-same-length-7 m) (walk-same-length-8 m) (walk-returns-3 m) (walk-sub-u m) (walk-has-name-requires m) (walk-sub-choose m) (walk-mul-choose m) (walk-array-read-choose m) (walk-choose-requires m) (walk-mul-choose-2 m) (walk-array-read-choose-2 m) (walk-choose-requires-2 m) (walk-loop-holds m) (walk-onto-requires m) (walk-walk-requires m) (walk-add-t m) (walk-loop-less m) (walk-loop-again m) (walk-same-length-9 m) (walk-same-length-10 m) (walk-same-length-11 m) (walk-returns-4 m))
+    (walk_hopeless_requires m) (walk_same_length m) (walk_same_length_2 m) (walk_returns m) (walk_answer_requires m) (walk_same_length_3 m) (walk_same_length_4 m) (walk_same_length_5 m) (walk_returns_2 m) (walk_find_requires m) (walk_same_length_6 m) (walk_same_length_7 m) (walk_same_length_8 m) (walk_returns_3 m) (walk_sub_u m) (walk_has_name_requires m) (walk_sub_choose m) (walk_mul_choose m) (walk_array_read_choose m) (walk_choose_requires m) (walk_mul_choose_2 m) (walk_array_read_choose_2 m) (walk_choose_requires_2 m) (walk_loop_holds m) (walk_onto_requires m) (walk_walk_requires m) (walk_add_t m) (walk_loop_less m) (walk_loop_again m) (walk_same_length_9 m) (walk_same_length_10 m) (walk_same_length_11 m) (walk_returns_4 m))

@@ -1,8 +1,8 @@
 -- `places::walk::answer` meets its contract.
 use borrow.Author.Rules.{rules}
 use Rattle.tables.specs.Table.{standing}
-use Rattle.places.proofs.Laying.{replies-added}
-use Rattle.places.proofs.Walks.{lay-placed, few_cycles, root-rows}
+use Rattle.places.proofs.Laying.{replies_added}
+use Rattle.places.proofs.Walks.{lay_placed, few_cycles, root_rows}
 use Rattle.places.proofs.walk.answer.Statement.{statement}
 use Rattle.places.proofs.walk.answer.Tie as tie
 
@@ -14,8 +14,8 @@ lay-requires c κs =
 add-requires : tie.Need-add-requires
 add-requires c κs =
     let w = c.before.before.before.before.before.before.before.before.before.before.before.before.before.before.before.before.requires.0 in
-    let p = lay-placed w c.before.before.before.before.before.before.lay.ensures.0 c.before.before.before.before.before.before.lay.ensures.1 c.before.before.before.before.before.before.lay.auto.1.1.1.1.1.1.0 in
-    (root-rows w p w.formulas.reply, few_cycles w, c.before.before.before.before.before.before.before.before.before.before.before.before.before.before.before.before.requires.1)
+    let p = lay_placed w c.before.before.before.before.before.before.lay.ensures.0 c.before.before.before.before.before.before.lay.ensures.1 c.before.before.before.before.before.before.lay.auto.1.1.1.1.1.1.0 in
+    (root_rows w p w.formulas.reply, few_cycles w, c.before.before.before.before.before.before.before.before.before.before.before.before.before.before.before.before.requires.1)
 
 same_length : tie.Need-same-length
 same_length c = search rules
@@ -30,9 +30,9 @@ returns : tie.Need-returns
 returns c =
     let w = c.before.before.before.before.before.before.before.before.before.before.before.before.before.before.before.before.before.before.before.requires.0 in
     let a = c.before.before.before.before.before.before.before.before.before.before.before.before.before.before.before.before.before.before.before.args in
-    let p = lay-placed w c.before.before.before.before.before.before.before.before.before.lay.ensures.0 c.before.before.before.before.before.before.before.before.before.lay.ensures.1 c.before.before.before.before.before.before.before.before.before.lay.auto.1.1.1.1.1.1.0 in
+    let p = lay_placed w c.before.before.before.before.before.before.before.before.before.lay.ensures.0 c.before.before.before.before.before.before.before.before.before.lay.ensures.1 c.before.before.before.before.before.before.before.before.before.lay.auto.1.1.1.1.1.1.0 in
     let r = c.before.before.add.ensures in
-    (p.laid, (r.0, replies-added (standing a.spot.cycles) (few_cycles w) p.tables a.job.task _ _ w.formulas r.1.0))
+    (p.laid, (r.0, replies_added (standing a.spot.cycles) (few_cycles w) p.tables a.job.task _ _ w.formulas r.1.0))
 
 pub answer-spec : {M : Type 1} → statement M
 answer-spec =

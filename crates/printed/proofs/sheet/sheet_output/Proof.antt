@@ -3,7 +3,7 @@ use mathlib.Core.Path.{sym, subst}
 use native.Mathlib.Omega.{arith}
 use borrow.Author.Rules.{rules}
 use Rattle.printed.specs.Sheet.{SheetOutput}
-use Rattle.printed.proofs.Outputs.{blank_length, sheet-fits, sheet-output, unread_output}
+use Rattle.printed.proofs.Outputs.{blank_length, sheet_fits, sheet_output, unread_output}
 use Rattle.printed.proofs.sheet.sheet_output.Statement.{statement}
 use Rattle.printed.proofs.sheet.sheet_output.Tie as tie
 
@@ -26,13 +26,13 @@ read-text-requires : tie.Need-read-text-requires
 read-text-requires c κs = search rules
 
 answered-requires : tie.Need-answered-requires
-answered-requires c κs = sheet-fits _ _ _ c.before.before.before.before.blank.ensures _ c.before.read-text.ensures
+answered-requires c κs = sheet_fits _ _ _ c.before.before.before.before.blank.ensures _ c.before.read-text.ensures
 
 returns-2 : tie.Need-returns-2
 returns-2 c =
     let text = c.before.before.before.before.before.before.before.args.text.now in
     subst (SheetOutput text) (sym c.answered.ensures)
-    (sheet-output text _ _ c.before.before.before.before.before.blank.ensures _ (omega arith) c.before.before.read-text.ensures)
+    (sheet_output text _ _ c.before.before.before.before.before.blank.ensures _ (omega arith) c.before.before.read-text.ensures)
 
 pub sheet-output-spec : {M : Type 1} → statement M
 sheet-output-spec =

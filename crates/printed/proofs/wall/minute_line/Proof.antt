@@ -6,8 +6,8 @@ use Rattle.stored.specs.Layout.{least_words}
 use Rattle.checker.specs.declared.check.Answer.{Answer}
 use Rattle.checker.specs.Small.{Small}
 use Rattle.board.specs.Board.{feed_answer, next_board}
-use Rattle.board.proofs.Answers.{feed-small}
-use Rattle.board.proofs.Feeds.{next-over, answer-over}
+use Rattle.board.proofs.Answers.{feed_small}
+use Rattle.board.proofs.Feeds.{next_over_lem, answer_over}
 use Rattle.printed.specs.Line.{line_text, line_of}
 use Rattle.printed.specs.Wall.{minute_answer, minute_board}
 use borrow.Author.Rules.{rules}
@@ -31,7 +31,7 @@ feed-requires c κs = search rules
 
 answer-line-requires : tie.Need-answer-line-requires
 answer-line-requires c κs =
-    subst (λ (x : Answer). Small x) (sym c.before.before.feed.ensures.1.0) (feed-small _ _ _)
+    subst (λ (x : Answer). Small x) (sym c.before.before.feed.ensures.1.0) (feed_small _ _ _)
 
 returns : tie.Need-returns
 unfolding minute_answer minute_board
@@ -43,11 +43,11 @@ returns c =
     let long = sym words.ensures ∙ sym (length-replicate {A = ℕ} least_words 0) in
     let enough = replicate {A = ℕ} least_words 0 in
     let line = c.answer-line.ensures in (
-      fed.0 ∙ next-over a.board cycle.result words.result enough long ∙ ap (λ (w : ℕ). next_board a.board w enough) cycle.ensures.0,
+      fed.0 ∙ next_over_lem a.board cycle.result words.result enough long ∙ ap (λ (w : ℕ). next_board a.board w enough) cycle.ensures.0,
       (
         line.0
             ∙ ap (λ (x : Answer). line_of (line_text x))
-            (fed.1.0 ∙ answer-over a.board cycle.result words.result enough long ∙ ap (λ (w : ℕ). feed_answer a.board w enough) cycle.ensures.0),
+            (fed.1.0 ∙ answer_over a.board cycle.result words.result enough long ∙ ap (λ (w : ℕ). feed_answer a.board w enough) cycle.ensures.0),
         line.1,
       ),
     )

@@ -1,6 +1,6 @@
 -- `propositions::leaf::sign` meets its contract.
 use borrow.Author.Rules.{rules}
-use Rattle.propositions.proofs.Leaves.{sign-leafs}
+use Rattle.propositions.proofs.Leaves.{sign_leafs}
 use Rattle.propositions.proofs.leaf.sign.Statement.{statement}
 use Rattle.propositions.proofs.leaf.sign.Tie as tie
 
@@ -11,7 +11,7 @@ returns : tie.Need-returns
 returns c =
     let a = c.before.before.before.before.args in
     let t = c.before.before.token in
-    sign-leafs t.ensures a.wanted
+    sign_leafs t.ensures a.wanted
 
 pub sign-spec : {M : Type 1} → statement M
 sign-spec = tie.close (tie.spec token-requires returns)

@@ -6,7 +6,7 @@ use mathlib.Core.Path.{refl, ap}
 use Rattle.lexer.specs.Lexed.{meant, is_end}
 use Rattle.lexer.specs.declared.Token.TheVariants.{Plain, Signal, Name, Number, Outside}
 use Rattle.propositions.specs.Lexemes.{token_as}
-use Rattle.propositions.proofs.Leaves.{lexes_not, lexes-told, lexes-end}
+use Rattle.propositions.proofs.Leaves.{lexes_not, lexes_told, lexes_end}
 use Rattle.propositions.proofs.leaf.token.Statement.{statement}
 use Rattle.propositions.proofs.leaf.token.Tie as tie
 
@@ -39,7 +39,7 @@ unfolding token_as meant is_end
 returns-2 c =
     let next = c.before.before.before in
     let value = c.before.told.given.0.0 in
-    lexes-told (not-false next.before.before.before.args.ok next.before.if1.false) next.next.ensures
+    lexes_told (not-false next.before.before.before.args.ok next.before.if1.false) next.next.ensures
     (Plain value) 0 value c.before.told.given.1 refl (omega arith) refl (λ h b. b)
 
 returns-3 : tie.Need-returns-3
@@ -47,7 +47,7 @@ unfolding token_as meant is_end
 returns-3 c =
     let next = c.before.before.before in
     let value = c.before.told2.given.0.0 in
-    lexes-told (not-false next.before.before.before.args.ok next.before.if1.false) next.next.ensures
+    lexes_told (not-false next.before.before.before.args.ok next.before.if1.false) next.next.ensures
     (Signal value) 1 value c.before.told2.given.1 refl (omega arith) refl (λ h b. b)
 
 returns-4 : tie.Need-returns-4
@@ -55,7 +55,7 @@ unfolding token_as meant is_end
 returns-4 c =
     let next = c.before.before.before in
     let value = c.before.told3.given.0.0 in
-    lexes-told (not-false next.before.before.before.args.ok next.before.if1.false) next.next.ensures
+    lexes_told (not-false next.before.before.before.args.ok next.before.if1.false) next.next.ensures
     (Name value) 2 value c.before.told3.given.1 refl (omega arith) refl (λ h b. b)
 
 returns-5 : tie.Need-returns-5
@@ -63,21 +63,21 @@ unfolding token_as meant is_end
 returns-5 c =
     let next = c.before.before.before in
     let value = c.before.told4.given.0.0 in
-    lexes-told (not-false next.before.before.before.args.ok next.before.if1.false) next.next.ensures
+    lexes_told (not-false next.before.before.before.args.ok next.before.if1.false) next.next.ensures
     (Number value) 3 value c.before.told4.given.1 refl (omega arith) refl (λ h b. b)
 
 returns-6 : tie.Need-returns-6
 unfolding token_as meant is_end
 returns-6 c =
     let next = c.before.before in
-    lexes-told (not-false next.before.before.before.args.ok next.before.if1.false) next.next.ensures
+    lexes_told (not-false next.before.before.before.args.ok next.before.if1.false) next.next.ensures
     Outside 4 0 c.enum_told.given.1 refl (omega arith) refl (λ h b. absurd (omega arith))
 
 returns-7 : tie.Need-returns-7
 unfolding is_end
 returns-7 c =
     let next = c.before.before in
-    lexes-end (not-false next.before.before.before.args.ok next.before.if1.false) next.next.ensures
+    lexes_end (not-false next.before.before.before.args.ok next.before.if1.false) next.next.ensures
     0 (ap is_end c.enum-told2.given.1)
 
 pub token-spec : {M : Type 1} → statement M

@@ -8,11 +8,11 @@ use borrow.Fn.Kinds.{In}
 use borrow.Fn.PlainCycle.{Measures, is, falls, and}
 use Rattle.grammar.specs.Token.{or_sign, and_sign}
 use Rattle.grammar.specs.Reader.{about_or_p, has_or_p}
-use Rattle.typed.specs.Draft.{putOrP, putAndP}
+use Rattle.typed.specs.Draft.{put_or_p, put_and_p}
 use Rattle.propositions.specs.Propositions.{about_both, has_both, ByAnd}
-use Rattle.propositions.proofs.Chains.{Turns, left, turns-start, turns-again, turns-less, turns-ready, turns-joinable, turns-end}
+use Rattle.propositions.proofs.Chains.{Turns, left, turns_start, turns_again, turns_less, turns_ready, turns_joinable, turns_end}
 use Rattle.propositions.proofs.Propositions.{ByNone, or_chain, and_chain, unit_closes, whole_reads}
-use Rattle.propositions.proofs.Propositions.{bare-ready, negatable, negated-reads, single-piece, bracket-piece, bracket_reads}
+use Rattle.propositions.proofs.Propositions.{bare_ready, negatable, negated_reads, single_piece, bracket_piece, bracket_reads}
 use Rattle.propositions.proofs.Went.{within_open, reads_none}
 use Rattle.propositions.proofs.proposition.atom.Reads as atom
 use Rattle.propositions.proofs.proposition.atom.Kinds as atom-kinds
@@ -129,234 +129,234 @@ unit_claims m = (
 
 abbrev both_inv_loop : both-lts.invariant-loop
 both_inv_loop text at depth nodes₀ count got₀ joiner₀ nodes got joiner =
-    Turns and_sign about_both has_both putAndP ByNone depth text at count nodes₀ got₀ nodes got joiner
+    Turns and_sign about_both has_both put_and_p ByNone depth text at count nodes₀ got₀ nodes got joiner
 
 abbrev both_μ_loop : both-lts.decreases-loop
 both_μ_loop text at depth nodes₀ count got₀ joiner₀ nodes got joiner = left text joiner
 
 abbrev proposition_inv_loop : proposition-lts.invariant-loop
 proposition_inv_loop text at depth nodes₀ count got₀ joiner₀ nodes got joiner =
-    Turns or_sign about_or_p has_or_p putOrP ByAnd depth text at count nodes₀ got₀ nodes got joiner
+    Turns or_sign about_or_p has_or_p put_or_p ByAnd depth text at count nodes₀ got₀ nodes got joiner
 
 abbrev proposition_μ_loop : proposition-lts.decreases-loop
 proposition_μ_loop text at depth nodes₀ count got₀ joiner₀ nodes got joiner = left text joiner
 
 module _ (m : ℕ) where
-  atom-token-requires : atom-lts.Need-token-requires (atom_claims m) (atom_at m) atom.Post
-  atom-token-requires c κs = search rules
+  atom_token_requires : atom-lts.Need-token-requires (atom_claims m) (atom_at m) atom.Post
+  atom_token_requires c κs = search rules
 
-  atom-bracket-requires : atom-lts.Need-bracket-requires (atom_claims m) (atom_at m) atom.Post
-  atom-bracket-requires c κs =
+  atom_bracket_requires : atom-lts.Need-bracket-requires (atom_claims m) (atom_at m) atom.Post
+  atom_bracket_requires c κs =
       let start = c.before.before.before.before.before.before.before in
       (omega (arith, start.requires.0), start.requires.1.0)
 
-  atom-same-length : atom-lts.Need-same-length (atom_claims m) (atom_at m) atom.Post
-  atom-same-length c = c.before.before.bracket.ensures.size
+  atom_same_length : atom-lts.Need-same-length (atom_claims m) (atom_at m) atom.Post
+  atom_same_length c = c.before.before.bracket.ensures.size
 
-  atom-returns : atom-lts.Need-returns (atom_claims m) (atom_at m) atom.Post
-  atom-returns c =
+  atom_returns : atom-lts.Need-returns (atom_claims m) (atom_at m) atom.Post
+  atom_returns c =
       let opens = c.before.before.before.before in
-      bracket-piece opens.before.before.before.token.ensures opens.if1.true c.before.before.bracket.ensures
+      bracket_piece opens.before.before.before.token.ensures opens.if1.true c.before.before.bracket.ensures
 
-  atom-single-requires : atom-lts.Need-single-requires (atom_claims m) (atom_at m) atom.Post
-  atom-single-requires c κs =
+  atom_single_requires : atom-lts.Need-single-requires (atom_claims m) (atom_at m) atom.Post
+  atom_single_requires c κs =
       let first = c.before.before.before.before in
       let start = first.before.before.before in
       let p = start.requires.1.0 in
       record { area = p.area; counted = omega (arith, p.taken, p.inside, start.well-formed.0.1); small = first.token.ensures.small }
 
-  atom-same-length-2 : atom-lts.Need-same-length-2 (atom_claims m) (atom_at m) atom.Post
-  atom-same-length-2 c = c.before.before.single.ensures.size
+  atom_same_length_2 : atom-lts.Need-same-length-2 (atom_claims m) (atom_at m) atom.Post
+  atom_same_length_2 c = c.before.before.single.ensures.size
 
-  atom-returns-2 : atom-lts.Need-returns-2 (atom_claims m) (atom_at m) atom.Post
-  atom-returns-2 c =
+  atom_returns_2 : atom-lts.Need-returns-2 (atom_claims m) (atom_at m) atom.Post
+  atom_returns_2 c =
       let first = c.before.before.before.before.before.before.before in
-      single-piece first.token.ensures first.before.before.before.requires.1.1 c.before.before.before.before.if1.false
+      single_piece first.token.ensures first.before.before.before.requires.1.1 c.before.before.before.before.if1.false
       c.before.before.single.ensures
 
-  bracket-opened-requires : bracket-lts.Need-opened-requires (bracket_claims m) (bracket_at m) bracket.Post
-  bracket-opened-requires c κs = search rules
+  bracket_opened_requires : bracket-lts.Need-opened-requires (bracket_claims m) (bracket_at m) bracket.Post
+  bracket_opened_requires c κs = search rules
 
-  bracket-returns : bracket-lts.Need-returns (bracket_claims m) (bracket_at m) bracket.Post
-  bracket-returns c = let opened = c.before.before.opened in
+  bracket_returns : bracket-lts.Need-returns (bracket_claims m) (bracket_at m) bracket.Post
+  bracket_returns c = let opened = c.before.before.opened in
       reads_none refl (λ k. opened.ensures.fails (not-true opened.result.ok c.if1.true) _) refl
 
-  bracket-sub-proposition : bracket-lts.Need-overflow-sub-proposition (bracket_claims m) (bracket_at m) bracket.Post
-  bracket-sub-proposition c =
+  bracket_sub_proposition : bracket-lts.Need-overflow-sub-proposition (bracket_claims m) (bracket_at m) bracket.Post
+  bracket_sub_proposition c =
       let opened = c.before.before.opened in
       omega (arith, opened.ensures.roomy (not-false opened.result.ok c.if1.false))
 
-  bracket-proposition-requires : bracket-lts.Need-proposition-requires (bracket_claims m) (bracket_at m) bracket.Post
-  bracket-proposition-requires c κs =
+  bracket_proposition_requires : bracket-lts.Need-proposition-requires (bracket_claims m) (bracket_at m) bracket.Post
+  bracket_proposition_requires c κs =
       let start = c.before.before.before.before.before.before in
       let opened = c.before.before.before.opened in
       let ok = not-false opened.result.ok c.before.if1.false in
       (omega (arith, start.requires.0, opened.ensures.roomy ok), within_open start.requires.1 ok opened.ensures)
 
-  bracket-sign-requires : bracket-lts.Need-sign-requires (bracket_claims m) (bracket_at m) bracket.Post
-  bracket-sign-requires c κs = search rules
+  bracket_sign_requires : bracket-lts.Need-sign-requires (bracket_claims m) (bracket_at m) bracket.Post
+  bracket_sign_requires c κs = search rules
 
-  bracket-same-length : bracket-lts.Need-same-length (bracket_claims m) (bracket_at m) bracket.Post
-  bracket-same-length c = search rules
+  bracket_same_length : bracket-lts.Need-same-length (bracket_claims m) (bracket_at m) bracket.Post
+  bracket_same_length c = search rules
 
-  bracket-returns-2 : bracket-lts.Need-returns-2 (bracket_claims m) (bracket_at m) bracket.Post
-  bracket-returns-2 c =
+  bracket_returns_2 : bracket-lts.Need-returns-2 (bracket_claims m) (bracket_at m) bracket.Post
+  bracket_returns_2 c =
       let at-proposition = c.before.before.before in
       let at-if1 = at-proposition.before.before in
       let opened = at-if1.before.before.opened in
       bracket_reads (not-false opened.result.ok at-if1.if1.false) opened.ensures at-proposition.proposition.ensures c.sign.ensures
 
-  both-unit-requires : both-lts.Need-unit-requires (both_claims m) (both_at m) both.Post both_inv_loop both_μ_loop
-  both-unit-requires c κs = let p = c.before.before.before.requires in (omega (arith, p.0), p.1)
+  both_unit_requires : both-lts.Need-unit-requires (both_claims m) (both_at m) both.Post both_inv_loop both_μ_loop
+  both_unit_requires c κs = let p = c.before.before.before.requires in (omega (arith, p.0), p.1)
 
-  both-sign-requires : both-lts.Need-sign-requires (both_claims m) (both_at m) both.Post both_inv_loop both_μ_loop
-  both-sign-requires c κs = search rules
+  both_sign_requires : both-lts.Need-sign-requires (both_claims m) (both_at m) both.Post both_inv_loop both_μ_loop
+  both_sign_requires c κs = search rules
 
-  both-loop-holds : both-lts.Need-loop-init (both_claims m) (both_at m) both.Post both_inv_loop both_μ_loop
-  both-loop-holds c = turns-start and_chain c.sign.ensures
+  both_loop_holds : both-lts.Need-loop-init (both_claims m) (both_at m) both.Post both_inv_loop both_μ_loop
+  both_loop_holds c = turns_start and_chain c.sign.ensures
 
-  both-last-requires : both-lts.Need-last-requires (both_claims m) (both_at m) both.Post both_inv_loop both_μ_loop
-  both-last-requires c κs = search rules
+  both_last_requires : both-lts.Need-last-requires (both_claims m) (both_at m) both.Post both_inv_loop both_μ_loop
+  both_last_requires c κs = search rules
 
-  both-unit-requires-2 : both-lts.Need-unit-requires-2 (both_claims m) (both_at m) both.Post both_inv_loop both_μ_loop
-  both-unit-requires-2 c κs =
+  both_unit_requires_2 : both-lts.Need-unit-requires-2 (both_claims m) (both_at m) both.Post both_inv_loop both_μ_loop
+  both_unit_requires_2 c κs =
       let head = c.before.before.before in
       let p = head.before.before.before.before.before.before.before.before.requires in (
         omega (arith, p.0),
-        turns-ready and_chain (unit_closes head.before.before.before.before.unit.ensures) head.loop.invariant p.1
+        turns_ready and_chain (unit_closes head.before.before.before.before.unit.ensures) head.loop.invariant p.1
             c.before.before.loop-test.true,
       )
 
-  both-join-requires : both-lts.Need-join-requires (both_claims m) (both_at m) both.Post both_inv_loop both_μ_loop
-  both-join-requires c κs =
+  both_join_requires : both-lts.Need-join-requires (both_claims m) (both_at m) both.Post both_inv_loop both_μ_loop
+  both_join_requires c κs =
       let head = c.before.before.before.before.before.before.before in
       let start = head.before.before.before.before.before.before.before.before in
-      turns-joinable and_chain (unit_closes head.before.before.before.before.unit.ensures) head.loop.invariant start.requires.1
+      turns_joinable and_chain (unit_closes head.before.before.before.before.unit.ensures) head.loop.invariant start.requires.1
       (omega (arith, start.well-formed.0.1))
       c.before.before.before.before.before.before.loop-test.true (unit_closes c.before.before.before.unit2.ensures)
       c.before.before.before.before.before.last.ensures
 
-  both-sign-requires-2 : both-lts.Need-sign-requires-2 (both_claims m) (both_at m) both.Post both_inv_loop both_μ_loop
-  both-sign-requires-2 c κs = search rules
+  both_sign_requires_2 : both-lts.Need-sign-requires-2 (both_claims m) (both_at m) both.Post both_inv_loop both_μ_loop
+  both_sign_requires_2 c κs = search rules
 
-  both-loop-less : both-lts.Need-loop-smaller (both_claims m) (both_at m) both.Post both_inv_loop both_μ_loop
-  both-loop-less c =
+  both_loop_less : both-lts.Need-loop-smaller (both_claims m) (both_at m) both.Post both_inv_loop both_μ_loop
+  both_loop_less c =
       let second = c.before.before.before.before.before.before.before in
       let turn = second.before.before.before in
-      turns-less and_chain turn.before.loop.invariant turn.loop-test.true (unit_closes second.unit2.ensures)
+      turns_less and_chain turn.before.loop.invariant turn.loop-test.true (unit_closes second.unit2.ensures)
       second.before.before.last.ensures
       c.before.before.before.join.ensures c.sign2.ensures
 
-  both-loop-again : both-lts.Need-loop-preserved (both_claims m) (both_at m) both.Post both_inv_loop both_μ_loop
-  both-loop-again c =
+  both_loop_again : both-lts.Need-loop-preserved (both_claims m) (both_at m) both.Post both_inv_loop both_μ_loop
+  both_loop_again c =
       let second = c.before.before.before.before.before.before.before in
       let turn = second.before.before.before in
-      turns-again and_chain turn.before.loop.invariant turn.loop-test.true (unit_closes second.unit2.ensures)
+      turns_again and_chain turn.before.loop.invariant turn.loop-test.true (unit_closes second.unit2.ensures)
       second.before.before.last.ensures
       c.before.before.before.join.ensures c.sign2.ensures
 
-  both-same-length : both-lts.Need-same-length (both_claims m) (both_at m) both.Post both_inv_loop both_μ_loop
-  both-same-length c = c.before.loop.invariant.size ∙ c.before.before.before.before.before.unit.ensures.size
+  both_same_length : both-lts.Need-same-length (both_claims m) (both_at m) both.Post both_inv_loop both_μ_loop
+  both_same_length c = c.before.loop.invariant.size ∙ c.before.before.before.before.before.unit.ensures.size
 
-  both-returns : both-lts.Need-returns (both_claims m) (both_at m) both.Post both_inv_loop both_μ_loop
-  both-returns c =
+  both_returns : both-lts.Need-returns (both_claims m) (both_at m) both.Post both_inv_loop both_μ_loop
+  both_returns c =
       let head = c.before in
-      turns-end and_chain (unit_closes head.before.before.before.before.unit.ensures) head.loop.invariant c.loop-test.false
+      turns_end and_chain (unit_closes head.before.before.before.before.unit.ensures) head.loop.invariant c.loop-test.false
 
-  proposition-both-requires : proposition-lts.Need-both-requires (proposition_claims m) (proposition_at m) proposition.Post proposition_inv_loop proposition_μ_loop
-  proposition-both-requires c κs = let p = c.before.before.before.requires in (omega (arith, p.0), p.1)
+  proposition_both_requires : proposition-lts.Need-both-requires (proposition_claims m) (proposition_at m) proposition.Post proposition_inv_loop proposition_μ_loop
+  proposition_both_requires c κs = let p = c.before.before.before.requires in (omega (arith, p.0), p.1)
 
-  proposition-sign-requires : proposition-lts.Need-sign-requires (proposition_claims m) (proposition_at m) proposition.Post proposition_inv_loop proposition_μ_loop
-  proposition-sign-requires c κs = search rules
+  proposition_sign_requires : proposition-lts.Need-sign-requires (proposition_claims m) (proposition_at m) proposition.Post proposition_inv_loop proposition_μ_loop
+  proposition_sign_requires c κs = search rules
 
-  proposition-loop-holds : proposition-lts.Need-loop-init (proposition_claims m) (proposition_at m) proposition.Post proposition_inv_loop proposition_μ_loop
-  proposition-loop-holds c = turns-start or_chain c.sign.ensures
+  proposition_loop_holds : proposition-lts.Need-loop-init (proposition_claims m) (proposition_at m) proposition.Post proposition_inv_loop proposition_μ_loop
+  proposition_loop_holds c = turns_start or_chain c.sign.ensures
 
-  proposition-last-requires : proposition-lts.Need-last-requires (proposition_claims m) (proposition_at m) proposition.Post proposition_inv_loop proposition_μ_loop
-  proposition-last-requires c κs = search rules
+  proposition_last_requires : proposition-lts.Need-last-requires (proposition_claims m) (proposition_at m) proposition.Post proposition_inv_loop proposition_μ_loop
+  proposition_last_requires c κs = search rules
 
-  proposition-both-requires-2 : proposition-lts.Need-both-requires-2 (proposition_claims m) (proposition_at m) proposition.Post proposition_inv_loop proposition_μ_loop
-  proposition-both-requires-2 c κs =
+  proposition_both_requires_2 : proposition-lts.Need-both-requires-2 (proposition_claims m) (proposition_at m) proposition.Post proposition_inv_loop proposition_μ_loop
+  proposition_both_requires_2 c κs =
       let head = c.before.before.before in
       let p = head.before.before.before.before.before.before.before.before.requires in (
         omega (arith, p.0),
-        turns-ready or_chain head.before.before.before.before.both.ensures head.loop.invariant p.1
+        turns_ready or_chain head.before.before.before.before.both.ensures head.loop.invariant p.1
             c.before.before.loop-test.true,
       )
 
-  proposition-join-requires : proposition-lts.Need-join-requires (proposition_claims m) (proposition_at m) proposition.Post proposition_inv_loop proposition_μ_loop
-  proposition-join-requires c κs =
+  proposition_join_requires : proposition-lts.Need-join-requires (proposition_claims m) (proposition_at m) proposition.Post proposition_inv_loop proposition_μ_loop
+  proposition_join_requires c κs =
       let head = c.before.before.before.before.before.before.before in
       let start = head.before.before.before.before.before.before.before.before in
-      turns-joinable or_chain head.before.before.before.before.both.ensures head.loop.invariant start.requires.1
+      turns_joinable or_chain head.before.before.before.before.both.ensures head.loop.invariant start.requires.1
       (omega (arith, start.well-formed.0.1))
       c.before.before.before.before.before.before.loop-test.true c.before.before.before.both2.ensures
       c.before.before.before.before.before.last.ensures
 
-  proposition-sign-requires-2 : proposition-lts.Need-sign-requires-2 (proposition_claims m) (proposition_at m) proposition.Post proposition_inv_loop proposition_μ_loop
-  proposition-sign-requires-2 c κs = search rules
+  proposition_sign_requires_2 : proposition-lts.Need-sign-requires-2 (proposition_claims m) (proposition_at m) proposition.Post proposition_inv_loop proposition_μ_loop
+  proposition_sign_requires_2 c κs = search rules
 
-  proposition-loop-less : proposition-lts.Need-loop-smaller (proposition_claims m) (proposition_at m) proposition.Post proposition_inv_loop proposition_μ_loop
-  proposition-loop-less c =
+  proposition_loop_less : proposition-lts.Need-loop-smaller (proposition_claims m) (proposition_at m) proposition.Post proposition_inv_loop proposition_μ_loop
+  proposition_loop_less c =
       let second = c.before.before.before.before.before.before.before in
       let turn = second.before.before.before in
-      turns-less or_chain turn.before.loop.invariant turn.loop-test.true second.both2.ensures second.before.before.last.ensures
+      turns_less or_chain turn.before.loop.invariant turn.loop-test.true second.both2.ensures second.before.before.last.ensures
       c.before.before.before.join.ensures c.sign2.ensures
 
-  proposition-loop-again : proposition-lts.Need-loop-preserved (proposition_claims m) (proposition_at m) proposition.Post proposition_inv_loop proposition_μ_loop
-  proposition-loop-again c =
+  proposition_loop_again : proposition-lts.Need-loop-preserved (proposition_claims m) (proposition_at m) proposition.Post proposition_inv_loop proposition_μ_loop
+  proposition_loop_again c =
       let second = c.before.before.before.before.before.before.before in
       let turn = second.before.before.before in
-      turns-again or_chain turn.before.loop.invariant turn.loop-test.true second.both2.ensures second.before.before.last.ensures
+      turns_again or_chain turn.before.loop.invariant turn.loop-test.true second.both2.ensures second.before.before.last.ensures
       c.before.before.before.join.ensures c.sign2.ensures
 
-  proposition-same-length : proposition-lts.Need-same-length (proposition_claims m) (proposition_at m) proposition.Post proposition_inv_loop proposition_μ_loop
-  proposition-same-length c = c.before.loop.invariant.size ∙ c.before.before.before.before.before.both.ensures.reads.size
+  proposition_same_length : proposition-lts.Need-same-length (proposition_claims m) (proposition_at m) proposition.Post proposition_inv_loop proposition_μ_loop
+  proposition_same_length c = c.before.loop.invariant.size ∙ c.before.before.before.before.before.both.ensures.reads.size
 
-  proposition-returns : proposition-lts.Need-returns (proposition_claims m) (proposition_at m) proposition.Post proposition_inv_loop proposition_μ_loop
-  proposition-returns c =
+  proposition_returns : proposition-lts.Need-returns (proposition_claims m) (proposition_at m) proposition.Post proposition_inv_loop proposition_μ_loop
+  proposition_returns c =
       let head = c.before in
-      whole_reads (turns-end or_chain head.before.before.before.before.both.ensures head.loop.invariant c.loop-test.false)
+      whole_reads (turns_end or_chain head.before.before.before.before.both.ensures head.loop.invariant c.loop-test.false)
 
-  unit-nots-requires : unit-lts.Need-nots-requires (unit_claims m) (unit_at m) unit.Post
-  unit-nots-requires c κs = c.before.before.requires.1.inside
+  unit_nots_requires : unit-lts.Need-nots-requires (unit_claims m) (unit_at m) unit.Post
+  unit_nots_requires c κs = c.before.before.requires.1.inside
 
-  unit-atom-requires : unit-lts.Need-atom-requires (unit_claims m) (unit_at m) unit.Post
-  unit-atom-requires c κs =
+  unit_atom_requires : unit-lts.Need-atom-requires (unit_claims m) (unit_at m) unit.Post
+  unit_atom_requires c κs =
       let p = c.before.before.before.before.requires in
       let signs = c.before.nots.ensures in
-      (omega (arith, p.0), (bare-ready signs p.1, signs.bare))
+      (omega (arith, p.0), (bare_ready signs p.1, signs.bare))
 
-  unit-negate-requires : unit-lts.Need-negate-requires (unit_claims m) (unit_at m) unit.Post
-  unit-negate-requires c κs =
+  unit_negate_requires : unit-lts.Need-negate-requires (unit_claims m) (unit_at m) unit.Post
+  unit_negate_requires c κs =
       let start = c.before.before.before.before.before.before.before.before in
       negatable c.before.before.before.before.before.nots.ensures c.before.before.before.atom.ensures
       (omega (arith, start.well-formed.0.1)) start.requires.1
 
-  unit-same-length : unit-lts.Need-same-length (unit_claims m) (unit_at m) unit.Post
-  unit-same-length c = c.before.before.negate.ensures.size ∙ c.before.before.before.before.before.before.atom.ensures.size
+  unit_same_length : unit-lts.Need-same-length (unit_claims m) (unit_at m) unit.Post
+  unit_same_length c = c.before.before.negate.ensures.size ∙ c.before.before.before.before.before.before.atom.ensures.size
 
-  unit-returns : unit-lts.Need-returns (unit_claims m) (unit_at m) unit.Post
-  unit-returns c =
+  unit_returns : unit-lts.Need-returns (unit_claims m) (unit_at m) unit.Post
+  unit_returns c =
       let got = c.before.before.before.before.before.before in
-      negated-reads got.before.before.nots.ensures got.atom.ensures c.before.before.negate.ensures
+      negated_reads got.before.before.nots.ensures got.atom.ensures c.before.before.negate.ensures
 
 pub +atom-both-bracket-proposition-unit-spec : {M : Type 1} → statement M
 +atom-both-bracket-proposition-unit-spec =
     close μ_atom μ_both μ_bracket μ_proposition μ_unit
     (λ m. atom-lts.spec (atom_claims m) (atom_at m) atom.Post
-    (atom-token-requires m) (atom-bracket-requires m) (atom-same-length m) (atom-returns m)
-    (atom-single-requires m) (atom-same-length-2 m) (atom-returns-2 m))
+    (atom_token_requires m) (atom_bracket_requires m) (atom_same_length m) (atom_returns m)
+    (atom_single_requires m) (atom_same_length_2 m) (atom_returns_2 m))
     (λ m. both-lts.spec (both_claims m) (both_at m) both.Post both_inv_loop both_μ_loop
-    (both-unit-requires m) (both-sign-requires m) (both-loop-holds m) (both-last-requires m)
-    (both-unit-requires-2 m) (both-join-requires m) (both-sign-requires-2 m) (both-loop-less m) (both-loop-again m)
-    (both-same-length m) (both-returns m))
+    (both_unit_requires m) (both_sign_requires m) (both_loop_holds m) (both_last_requires m)
+    (both_unit_requires_2 m) (both_join_requires m) (both_sign_requires_2 m) (both_loop_less m) (both_loop_again m)
+    (both_same_length m) (both_returns m))
     (λ m. bracket-lts.spec (bracket_claims m) (bracket_at m) bracket.Post
-    (bracket-opened-requires m) (bracket-returns m) (bracket-sub-proposition m) (bracket-proposition-requires m)
-    (bracket-sign-requires m) (bracket-same-length m) (bracket-returns-2 m))
+    (bracket_opened_requires m) (bracket_returns m) (bracket_sub_proposition m) (bracket_proposition_requires m)
+    (bracket_sign_requires m) (bracket_same_length m) (bracket_returns_2 m))
     (λ m. proposition-lts.spec (proposition_claims m) (proposition_at m) proposition.Post proposition_inv_loop proposition_μ_loop
-    (proposition-both-requires m) (proposition-sign-requires m) (proposition-loop-holds m) (proposition-last-requires m)
-    (proposition-both-requires-2 m) (proposition-join-requires m) (proposition-sign-requires-2 m) (proposition-loop-less m)
-    (proposition-loop-again m) (proposition-same-length m) (proposition-returns m))
+    (proposition_both_requires m) (proposition_sign_requires m) (proposition_loop_holds m) (proposition_last_requires m)
+    (proposition_both_requires_2 m) (proposition_join_requires m) (proposition_sign_requires_2 m) (proposition_loop_less m)
+    (proposition_loop_again m) (proposition_same_length m) (proposition_returns m))
     (λ m. unit-lts.spec (unit_claims m) (unit_at m) unit.Post
-    (unit-nots-requires m) (unit-atom-requires m) (unit-negate-requires m) (unit-same-length m) (unit-returns m))
+    (unit_nots_requires m) (unit_atom_requires m) (unit_negate_requires m) (unit_same_length m) (unit_returns m))

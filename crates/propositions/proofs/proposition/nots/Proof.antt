@@ -2,7 +2,7 @@
 use borrow.Author.Rules.{rules}
 use native.Mathlib.Omega.{arith}
 use Rattle.propositions.proofs.Chains.{left, fewer}
-use Rattle.propositions.proofs.Propositions.{Passed, passed_none, passed-more, passed-all}
+use Rattle.propositions.proofs.Propositions.{Passed, passed_none, passed_more, passed_all}
 use Rattle.propositions.proofs.proposition.nots.Statement.{statement}
 use Rattle.propositions.proofs.proposition.nots.Tie as tie
 
@@ -32,10 +32,10 @@ loop-less c =
     (fewer a.text.now _ again.result.ok again.result.at again.ensures.onward again.ensures.within)
 
 loop-again : tie.Need-loop-preserved invariant-loop decreases-loop
-loop-again c = passed-more c.before.before.loop.invariant c.before.loop-test.true c.sign2.ensures
+loop-again c = passed_more c.before.before.loop.invariant c.before.loop-test.true c.sign2.ensures
 
 returns : tie.Need-returns invariant-loop decreases-loop
-returns c = passed-all c.before.loop.invariant c.loop-test.false
+returns c = passed_all c.before.loop.invariant c.loop-test.false
 
 pub nots-spec : {M : Type 1} → statement M
 nots-spec =

@@ -8,7 +8,7 @@ use Rattle.stored.specs.Reach.{entry_of}
 use Rattle.plans.specs.Bound.{most_emitted}
 use Rattle.plans.specs.Emission.{Step}
 use Rattle.plans.proofs.Steps.{stay}
-use Rattle.pruning.proofs.Keeping.{Kept, none_kept, turn, pruned-to}
+use Rattle.pruning.proofs.Keeping.{Kept, none_kept, turn, pruned_to}
 use Rattle.pruning.proofs.keep.keep_marked.Statement.{statement}
 use Rattle.pruning.proofs.keep.keep_marked.Tie as tie
 
@@ -68,7 +68,7 @@ unfolding entry_of
 returns c =
     let p = c.before.before.before.before.before.requires in
     let inv = c.before.loop.invariant in
-    pruned-to p.0 p.1 (omega (arith, c.loop-test.false, inv.0)) refl inv.2 inv.3
+    pruned_to p.0 p.1 (omega (arith, c.loop-test.false, inv.0)) refl inv.2 inv.3
 
 pub keep-marked-spec : {M : Type 1} → statement M
 keep-marked-spec =

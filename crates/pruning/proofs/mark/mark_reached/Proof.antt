@@ -6,7 +6,7 @@ use native.Mathlib.Omega.{arith}
 use lib.ListN.{length, length-set}
 use Rattle.stored.specs.Written.{node_in}
 use Rattle.pruning.specs.Pruned.{MarkedFrom}
-use Rattle.pruning.proofs.Marking.{first_marked, turn-down, all_marked}
+use Rattle.pruning.proofs.Marking.{first_marked, turn_down, all_marked}
 use Rattle.pruning.proofs.mark.mark_reached.Statement.{statement}
 use Rattle.pruning.proofs.mark.mark_reached.Tie as tie
 
@@ -45,7 +45,7 @@ loop-again c =
     let less = turn.loop-test.true in
     let inv = at.loop.invariant in
     let made = c.before.before.mark-at.ensures in
-    (omega arith, c.before.before.mark-at.auto.0 ∙ inv.1, rw made (turn-down p.3 (omega arith) (omega arith) inv.2))
+    (omega arith, c.before.before.mark-at.auto.0 ∙ inv.1, rw made (turn_down p.3 (omega arith) (omega arith) inv.2))
 
 same_length : tie.Need-same-length invariant-loop decreases-loop
 same_length c = c.before.loop.invariant.1 ∙ (let a = c.before.before.before.before.args in length-set {A = ℕ} a.marks.now a.root 1)

@@ -5,7 +5,7 @@ use mathlib.Core.Path.{◌≡◌, refl, ◌∙◌, ap}
 use native.Mathlib.Omega.{arith}
 use Prim.Native.Nat.{ℕ, ◌-◌, ◌≤◌}
 use lib.ListN.{length, get_or, length-set}
-use Rattle.stored.proofs.Entries.{entries_none, entries_next, entries-all}
+use Rattle.stored.proofs.Entries.{entries_none, entries_next, entries_all}
 use Rattle.stored.proofs.Reach.{table_next}
 use Rattle.stored.specs.Node.{node_at}
 use Rattle.stored.specs.Tree.{earlier}
@@ -54,7 +54,7 @@ returns : tie.Need-returns invariant-loop decreases-loop
 unfolding reach_table
 returns c =
     let same : c.before.loop.i ≡ c.before.before.before.args.n = omega arith in
-    entries-all _ 64 _ _ c.before.loop.invariant.1 (λ k. c.before.loop.invariant.2 k ∙ ap (λ (i : ℕ). earlier i 0 (reach_at (node_at c.before.before.before.args.nodes.now)) k) same)
+    entries_all _ 64 _ _ c.before.loop.invariant.1 (λ k. c.before.loop.invariant.2 k ∙ ap (λ (i : ℕ). earlier i 0 (reach_at (node_at c.before.before.before.args.nodes.now)) k) same)
 
 pub reach-table-spec : {M : Type 1} → statement M
 reach-table-spec =

@@ -9,7 +9,7 @@ use borrow.Author.Tests.{eq-eqb, ne_eqb, not-true, not-false}
 use Rattle.stored.specs.declared.SheetAnswer.TheVariants.{Accepted}
 use Rattle.stored.specs.Sheet.{header_of, node_part, clause_part, nodes_of, stored_of, framed, versioned, of_kind_one, counted, sized, nodes_right, operands_found, clauses_right, clauses_named}
 use Rattle.stored.proofs.Accepted.{Counts, counts}
-use Rattle.stored.proofs.Answer.{Framed, Sized, framed-long, covered_named, refused1, refused2, refused3, refused4, refused5, refused6, refused7, refused8, refused9, accepted}
+use Rattle.stored.proofs.Answer.{Framed, Sized, framed_long, covered_named, refused1, refused2, refused3, refused4, refused5, refused6, refused7, refused8, refused9, accepted}
 
 -- what is known past each test
 rule1 : (c : tie.Else1) → framed c.before.before.before.args.sheet.now ≡ true
@@ -83,21 +83,21 @@ unfolding framed
 returns c = refused1 _ (sym c.before.is_framed.ensures ∙ not-true _ c.if1.true)
 
 byte-requires : tie.Need-byte-requires
-byte-requires c κs = omega (arith, framed-long _ (rule1 c))
+byte-requires c κs = omega (arith, framed_long _ (rule1 c))
 
 returns-2 : tie.Need-returns-2
 unfolding versioned
 returns-2 c = refused2 _ (rule1 c.before.before) (ne_eqb _ 1 (λ e. c.if2.true (c.before.byte.ensures.0 ∙ e)))
 
 byte-requires-2 : tie.Need-byte-requires-2
-byte-requires-2 c κs = omega (arith, framed-long _ (rule1 c.before.before))
+byte-requires-2 c κs = omega (arith, framed_long _ (rule1 c.before.before))
 
 returns-3 : tie.Need-returns-3
 unfolding of_kind_one
 returns-3 c = refused3 _ (rule1 c.before.before.before.before) (rule2 c.before.before) (ne_eqb _ 1 (λ e. c.if3.true (c.before.byte2.ensures.0 ∙ e)))
 
 header-requires : tie.Need-header-requires
-header-requires c κs = omega (arith, framed-long _ (frame c).rule1)
+header-requires c κs = omega (arith, framed_long _ (frame c).rule1)
 
 counts-ok-requires : tie.Need-counts-ok-requires
 counts-ok-requires c κs = omega arith

@@ -9,7 +9,7 @@ use Rattle.traces.specs.Columns.{trace_of, marks_of}
 use Rattle.stored.specs.Node.{node_at}
 use Rattle.stored.specs.Reach.{joint, entry_of}
 use Rattle.tables.specs.Ready.{apart}
-use Rattle.tables.proofs.Fills.{Sofar, sofar_none, sofar-before, sofar-turn, sofar-pass, sofar_all, given_other}
+use Rattle.tables.proofs.Fills.{Sofar, sofar_none, sofar_before, sofar_turn, sofar_pass, sofar_all, given_other}
 use Rattle.tables.proofs.fill.fill.Statement.{statement}
 use Rattle.tables.proofs.fill.fill.Tie as tie
 
@@ -34,7 +34,7 @@ put-node-requires : tie.Need-put-node-requires invariant-loop decreases-loop
 put-node-requires c κs =
     let at = c.before.before.before.before.loop in
     let g = c.before.before.before.before.before.before.before.before.before.requires.0.0 in
-    (given_other _ at.words g.columned at.invariant.0 g, (sofar-before g.few_cycles at.i at.words at.invariant.1, c.before.before.before.loop-test.true))
+    (given_other _ at.words g.columned at.invariant.0 g, (sofar_before g.few_cycles at.i at.words at.invariant.1, c.before.before.before.loop-test.true))
 
 add-i : tie.Need-overflow-add-i invariant-loop decreases-loop
 add-i c = omega (arith, c.before.before.before.before.before.before.before.before.requires.0.0.few_nodes)
@@ -49,8 +49,8 @@ loop-again c =
     let a = c.before.before.before.before.before.before.before.before.args in
     let few = c.before.before.before.before.before.before.before.before.requires.0.0.few_cycles in
     ⊎_elim
-    (λ w. sofar-turn few at.i a.words.now at.words _ c.if1.words w.5 w.2.kept.1.1.1.1.1.0 at.invariant.0 w.2.ensures at.invariant.1)
-    (λ w. sofar-pass few at.i a.words.now at.words c.if1.words w.1 at.invariant.0 c.before.before.loop-test.true (eq-eqb _ _ w.0.left) at.invariant.1)
+    (λ w. sofar_turn few at.i a.words.now at.words _ c.if1.words w.5 w.2.kept.1.1.1.1.1.0 at.invariant.0 w.2.ensures at.invariant.1)
+    (λ w. sofar_pass few at.i a.words.now at.words c.if1.words w.1 at.invariant.0 c.before.before.loop-test.true (eq-eqb _ _ w.0.left) at.invariant.1)
     c.if1.branch
 
 same_length : tie.Need-same-length invariant-loop decreases-loop

@@ -7,9 +7,9 @@ use Rattle.stored.specs.declared.Node.{Node}
 use Rattle.traces.specs.Columns.{trace_of, marks_of}
 use Rattle.stored.specs.Node.{node_at}
 use Rattle.tables.specs.Step.{is_pair}
-use Rattle.tables.proofs.Nodes.{formula-read}
+use Rattle.tables.proofs.Nodes.{formula_read}
 use Rattle.tables.proofs.Uses.{pair_of, pair_formula, pair_first, pair_second}
-use Rattle.tables.proofs.Fills.{Partly, partly_none, partly-row, partly-all}
+use Rattle.tables.proofs.Fills.{Partly, partly_none, partly_row, partly_all}
 use Rattle.tables.proofs.fill.put_and_or.Statement.{statement}
 use Rattle.tables.proofs.fill.put_and_or.Tie as tie
 
@@ -37,7 +37,7 @@ and-or-row-requires c κs =
     let q = c.before.before.before.before.before.before.before.requires in
     let x = c.before.before.before.Node-at in
     let op = ap (λ (x : Node). x.op) x.ensures in
-    let t = formula-read q.0 a.i x.result (omega arith) x.ensures (pair_formula _ (pair_of _ (omega (arith, q.1.1.1)) q.1.1.2)) in
+    let t = formula_read q.0 a.i x.result (omega arith) x.ensures (pair_formula _ (pair_of _ (omega (arith, q.1.1.1)) q.1.1.2)) in
     (t.0, (omega (arith, q.1.1.1), omega (arith, q.1.1.2), omega (arith, c.before.before.loop.invariant.0), omega (arith, q.0), omega (arith, q.0, c.before.before.loop.invariant.1)))
 
 mul_words : tie.Need-overflow-mul-words invariant-loop decreases-loop
@@ -65,7 +65,7 @@ loop-again c =
     let pair = ap (λ (x : Node). is_pair x.op) x.ensures ∙ stored in (
       omega arith,
       length-set at.words _ _ ∙ at.invariant.1,
-      partly-row q.0 a.i q.1.1.0 x.result 0 0 at.b _ a.words.now at.words x.ensures (pair_formula _ stored)
+      partly_row q.0 a.i q.1.1.0 x.result 0 0 at.b _ a.words.now at.words x.ensures (pair_formula _ stored)
           c.before.before.loop-test.true at.invariant.0 at.invariant.1 q.1.0
           (pair_first _ x.result a.columns.now a.words.now pair) (pair_second _ x.result a.columns.now pair)
           c.and-or-row.ensures at.invariant.2,
@@ -80,7 +80,7 @@ returns c =
     let q = c.before.before.before.before.before.before.requires in
     let at = c.before.loop in
     let none : at.b ≡ 0 = omega arith in
-    partly-all q.0.few_cycles a.i at.b a.words.now at.words none (pair_formula _ (pair_of _ (omega (arith, q.1.1.1)) q.1.1.2)) at.invariant.2
+    partly_all q.0.few_cycles a.i at.b a.words.now at.words none (pair_formula _ (pair_of _ (omega (arith, q.1.1.1)) q.1.1.2)) at.invariant.2
 
 pub put-and-or-spec : {M : Type 1} → statement M
 put-and-or-spec =

@@ -5,8 +5,8 @@ use lib.ListN.{length-set}
 use Rattle.stored.specs.declared.Node.{Node}
 use Rattle.stored.specs.Tree.{proposition_op}
 use Rattle.tables.specs.Step.{column_of}
-use Rattle.tables.proofs.Nodes.{proposition-read}
-use Rattle.tables.proofs.Fills.{column-put, column-law}
+use Rattle.tables.proofs.Nodes.{proposition_read}
+use Rattle.tables.proofs.Fills.{column_put, column_law}
 use Rattle.tables.proofs.fill.put_column.Statement.{statement}
 use Rattle.tables.proofs.fill.put_column.Tie as tie
 
@@ -18,7 +18,7 @@ proposition-requires c κs =
     let a = c.before.before.before.before.before.args in
     let g = c.before.before.before.before.before.requires.0 in
     let s = c.before.before.before.before.before.requires.1.1.1 in
-    let t = proposition-read g a.i c.before.Node-at.result (omega arith) c.before.Node-at.ensures s in
+    let t = proposition_read g a.i c.before.Node-at.result (omega arith) c.before.Node-at.ensures s in
     (t.0, (omega (arith, t.1, g.few_cycles, g.columned.all)))
 
 mul_words : tie.Need-overflow-mul-words
@@ -39,10 +39,10 @@ returns c =
     let g = c.before.before.before.before.before.before.requires.0 in
     let before = c.before.before.before.before.before.before.requires.1.0 in
     let s = c.before.before.before.before.before.before.requires.1.1.1 in
-    column-put g.few_cycles a.i _ _ a.words.now refl (omega (arith, g)) s
+    column_put g.few_cycles a.i _ _ a.words.now refl (omega (arith, g)) s
     (c.proposition.ensures
     ∙ ap (λ (x : Node). column_of (proposition_op x.op) x a.n a.columns.now a.words.now) c.before.before.Node-at.ensures
-    ∙ column-law g a.i (omega arith) a.words.now before s)
+    ∙ column_law g a.i (omega arith) a.words.now before s)
 
 pub put-column-spec : {M : Type 1} → statement M
 put-column-spec =

@@ -6,8 +6,8 @@ use lib.ListN.{length, length-set}
 use Rattle.stored.specs.declared.Node.{Node}
 use Rattle.traces.specs.Columns.{trace_of, marks_of}
 use Rattle.stored.specs.Node.{node_at}
-use Rattle.tables.proofs.Nodes.{formula-read}
-use Rattle.tables.proofs.Fills.{Partly, partly_none, partly-row, partly-all}
+use Rattle.tables.proofs.Nodes.{formula_read}
+use Rattle.tables.proofs.Fills.{Partly, partly_none, partly_row, partly_all}
 use Rattle.tables.proofs.fill.put_drawing.Statement.{statement}
 use Rattle.tables.proofs.fill.put_drawing.Tie as tie
 
@@ -25,7 +25,7 @@ first-requires c κs =
     let a = c.before.before.before.before.before.args in
     let g = c.before.before.before.before.before.requires.0 in
     let s = c.before.before.before.before.before.requires.1.1.1 in
-    let t = formula-read g a.i c.before.Node-at.result (omega arith) c.before.Node-at.ensures s in
+    let t = formula_read g a.i c.before.Node-at.result (omega arith) c.before.Node-at.ensures s in
     (t.0, (omega (arith, g, g.columned.all)))
 
 second-requires : tie.Need-second-requires invariant-loop decreases-loop
@@ -33,7 +33,7 @@ second-requires c κs =
     let a = c.before.before.before.before.before.before.args in
     let g = c.before.before.before.before.before.before.requires.0 in
     let s = c.before.before.before.before.before.before.requires.1.1.1 in
-    let t = formula-read g a.i c.before.before.Node-at.result (omega arith) c.before.before.Node-at.ensures s in
+    let t = formula_read g a.i c.before.before.Node-at.result (omega arith) c.before.before.Node-at.ensures s in
     (t.0, (omega (arith, g, g.columned.all)))
 
 loop-holds : tie.Need-loop-init invariant-loop decreases-loop
@@ -51,7 +51,7 @@ drawing-row-requires c κs =
     let g = c.before.before.before.before.before.before.before.before.before.before.requires.0 in
     let s = c.before.before.before.before.before.before.before.before.before.before.requires.1.1.1 in
     let node = c.before.before.before.before.before.before.Node-at.ensures in
-    let t = formula-read g a.i c.before.before.before.before.before.before.Node-at.result (omega arith) node s in
+    let t = formula_read g a.i c.before.before.before.before.before.before.Node-at.result (omega arith) node s in
     let same = ap (λ (x : Node). x.op) node in
     (t.0, ((omega (arith, c.before.before.before.before.before.before.before.before.before.before.requires.1.1.2, same)), (omega (arith, t.1)), (omega (arith, c.before.before.loop.invariant.0)), (omega (arith, g))))
 
@@ -83,7 +83,7 @@ loop-again c =
     let second = c.before.before.before.before.second in (
       omega arith,
       length-set at.words _ _ ∙ at.invariant.1,
-      partly-row g a.i h x.result first.result second.result at.b _ a.words.now at.words x.ensures s
+      partly_row g a.i h x.result first.result second.result at.b _ a.words.now at.words x.ensures s
           c.before.before.loop-test.true at.invariant.0 at.invariant.1 before first.ensures second.ensures c.drawing-row.ensures at.invariant.2,
     )
 
@@ -98,7 +98,7 @@ returns c =
     let s = c.before.before.before.before.before.before.before.before.before.requires.1.1.1 in
     let at = c.before.loop in
     let none : at.b ≡ 0 = omega arith in
-    partly-all g.few_cycles a.i at.b a.words.now at.words none s at.invariant.2
+    partly_all g.few_cycles a.i at.b a.words.now at.words none s at.invariant.2
 
 pub put-drawing-spec : {M : Type 1} → statement M
 put-drawing-spec =

@@ -11,9 +11,9 @@ use Rattle.stored.specs.Node.{node_at}
 use Rattle.tables.specs.Table.{row_at}
 use Rattle.tables.specs.Step.{row_of, Empty}
 use Rattle.tables.proofs.Rows.{row_told}
-use Rattle.tables.proofs.Nodes.{chop-read}
+use Rattle.tables.proofs.Nodes.{chop_read}
 use Rattle.tables.proofs.Uses.{pair_first, pair_second}
-use Rattle.tables.proofs.Fills.{Partly, joined_other, empty_set, partly_none, partly-there, row-right, partly-row, partly-all}
+use Rattle.tables.proofs.Fills.{Partly, joined_other, empty_set, partly_none, partly_there, row_right, partly_row, partly_all}
 use Rattle.tables.proofs.fill.put_joined.Statement.{statement}
 use Rattle.tables.proofs.fill.put_joined.Tie as tie
 
@@ -40,7 +40,7 @@ row-at-requires c κs =
     let a = c.before.before.before.before.before.before.before.args in
     let q = c.before.before.before.before.before.before.before.requires in
     let x = c.before.before.before.Node-at in
-    let r = chop-read q.0 a.i x.result q.1.1.0 x.ensures q.1.1.1 in
+    let r = chop_read q.0 a.i x.result q.1.1.0 x.ensures q.1.1.1 in
     omega (arith, q.0, r.first, c.before.before.loop.invariant.0, c.before.before.loop.invariant.1)
 
 joined-at-requires : tie.Need-joined-at-requires invariant-loop decreases-loop
@@ -49,7 +49,7 @@ joined-at-requires c κs =
     let q = c.before.before.before.before.before.before.before.before.before.before.requires in
     let x = c.before.before.before.before.before.before.Node-at in
     let at = c.before.before.before.before.before.loop in
-    let r = chop-read q.0 a.i x.result q.1.1.0 x.ensures q.1.1.1 in
+    let r = chop_read q.0 a.i x.result q.1.1.0 x.ensures q.1.1.1 in
     (omega (arith, q.0, r.second, at.invariant.1), at.invariant.3)
 
 mul_words : tie.Need-overflow-mul-words invariant-loop decreases-loop
@@ -76,11 +76,11 @@ loop-again c =
     let at = c.before.before.before.before.before.before.loop in
     let ends = c.before.before.before.row-at in
     let row = c.joined_at in
-    let r = chop-read q.0 a.i x.result q.1.1.0 x.ensures q.1.1.1 in
+    let r = chop_read q.0 a.i x.result q.1.1.0 x.ensures q.1.1.1 in
     let apart : x.result.b ≡ a.i → ⊥ = λ e. let l = r.second in omega arith in (
       omega arith,
       length-set at.words _ _ ∙ at.invariant.1,
-      partly-row q.0 a.i q.1.1.0 x.result 0 0 at.b _ a.words.now at.words x.ensures r.formula
+      partly_row q.0 a.i q.1.1.0 x.result 0 0 at.b _ a.words.now at.words x.ensures r.formula
           c.before.before.before.before.before.loop-test.true at.invariant.0 at.invariant.1 q.1.0
           (pair_first _ x.result a.columns.now a.words.now r.pair) (pair_second _ x.result a.columns.now r.pair)
           (row_told x.result 20 a.n 0 0 at.words a.i (at.b - 1) _ r.op
@@ -101,14 +101,14 @@ loop-again-2 c =
     let x = c.before.before.before.before.before.Node-at in
     let at = c.before.before.before.before.loop in
     let ends = c.before.row-at in
-    let r = chop-read q.0 a.i x.result q.1.1.0 x.ensures q.1.1.1 in
+    let r = chop_read q.0 a.i x.result q.1.1.0 x.ensures q.1.1.1 in
     let more = c.before.before.before.loop-test.true in
     let rows = row_at at.words x.result.b in
     let here = at.invariant.4.none (at.b - 1) (omega arith) in (
       omega arith,
       at.invariant.1,
-      partly-there q.0.few_cycles a.i at.b a.words.now at.words more
-          (row-right q.0 a.i q.1.1.0 x.result 0 0 at.b _ a.words.now at.words x.ensures r.formula more at.invariant.0 q.1.0
+      partly_there q.0.few_cycles a.i at.b a.words.now at.words more
+          (row_right q.0 a.i q.1.1.0 x.result 0 0 at.b _ a.words.now at.words x.ensures r.formula more at.invariant.0 q.1.0
           (pair_first _ x.result a.columns.now a.words.now r.pair) (pair_second _ x.result a.columns.now r.pair)
           (row_told x.result 20 a.n 0 0 at.words a.i (at.b - 1) _ r.op
           (here ∙ sym (joined_none rows) ∙ ap (λ (z : ℕ). joined z rows) (sym c.if1.false ∙ ends.ensures)))
@@ -127,9 +127,9 @@ returns c =
     let q = c.before.before.before.before.before.before.requires in
     let x = c.before.before.Node-at in
     let at = c.before.loop in
-    let r = chop-read q.0 a.i x.result q.1.1.0 x.ensures q.1.1.1 in
+    let r = chop_read q.0 a.i x.result q.1.1.0 x.ensures q.1.1.1 in
     let none : at.b ≡ 0 = omega arith in
-    partly-all q.0.few_cycles a.i at.b a.words.now at.words none r.formula at.invariant.2
+    partly_all q.0.few_cycles a.i at.b a.words.now at.words none r.formula at.invariant.2
 
 pub put-joined-spec : {M : Type 1} → statement M
 put-joined-spec =

@@ -6,7 +6,7 @@ use Rattle.stored.specs.declared.Node.{Node}
 use Rattle.stored.specs.Node.{requirement_sorts, sort_of}
 use Rattle.tables.specs.Step.{is_pair}
 use Rattle.tables.proofs.Uses.{formula_left}
-use Rattle.tables.proofs.Nodes.{node-sorted}
+use Rattle.tables.proofs.Nodes.{node_sorted}
 use Rattle.tables.proofs.fill.put_node.Statement.{statement}
 use Rattle.tables.proofs.fill.put_node.Tie as tie
 
@@ -51,7 +51,7 @@ put-rows-requires c κs =
     let op = ap (λ (x : Node). x.op) (sym node) in
     let sort = ap (λ (x : Node). sort_of requirement_sorts x.op) (sym c.before.before.before.before.before.before.Node-at.ensures) ∙ sym c.before.before.before.sort-of.ensures in
     let pair = ap (λ (x : Node). is_pair x.op) (sym node) ∙ sym c.before.before.before.before.before.is-pair.ensures in
-    (p.0, (p.1.0, ((p.1.1, formula_left _ (node-sorted p.0 a.i p.1.1) (λ e. c.before.before.if2.false (sym sort ∙ e))), (omega (arith, op, c.before.if3.true), pair ∙ c.before.before.before.before.if1.false))))
+    (p.0, (p.1.0, ((p.1.1, formula_left _ (node_sorted p.0 a.i p.1.1) (λ e. c.before.before.if2.false (sym sort ∙ e))), (omega (arith, op, c.before.if3.true), pair ∙ c.before.before.before.before.if1.false))))
 
 put-drawing-requires : tie.Need-put-drawing-requires
 put-drawing-requires c κs =
@@ -59,7 +59,7 @@ put-drawing-requires c κs =
     let p = c.before.before.before.before.before.before.before.before.before.before.requires in
     let op = ap (λ (x : Node). x.op) (sym c.before.before.before.before.before.before.Node-at.ensures) in
     let sort = ap (λ (x : Node). sort_of requirement_sorts x.op) (sym c.before.before.before.before.before.before.Node-at.ensures) ∙ sym c.before.before.before.sort-of.ensures in
-    (p.0, (p.1.0, (p.1.1, formula_left _ (node-sorted p.0 a.i p.1.1) (λ e. c.before.before.if2.false (sym sort ∙ e)), (omega (arith, op, c.before.if3.false)))))
+    (p.0, (p.1.0, (p.1.1, formula_left _ (node_sorted p.0 a.i p.1.1) (λ e. c.before.before.if2.false (sym sort ∙ e)), (omega (arith, op, c.before.if3.false)))))
 
 same-length-3 : tie.Need-same-length-3
 same-length-3 c = c.before.before.put-rows.auto.1.1.1.1.1.0

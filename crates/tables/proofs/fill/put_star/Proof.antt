@@ -13,9 +13,9 @@ use Rattle.stored.specs.Node.{node_at}
 use Rattle.tables.specs.Table.{row_at}
 use Rattle.tables.specs.Step.{row_of}
 use Rattle.tables.proofs.Rows.{row_told}
-use Rattle.tables.proofs.Nodes.{star-read}
+use Rattle.tables.proofs.Nodes.{star_read}
 use Rattle.tables.proofs.Uses.{star_first, star_second}
-use Rattle.tables.proofs.Fills.{Partly, joined_own, partly_none, partly-row, partly-all}
+use Rattle.tables.proofs.Fills.{Partly, joined_own, partly_none, partly_row, partly_all}
 use Rattle.tables.proofs.fill.put_star.Statement.{statement}
 use Rattle.tables.proofs.fill.put_star.Tie as tie
 
@@ -42,7 +42,7 @@ row-at-requires c κs =
     let a = c.before.before.before.before.before.before.before.args in
     let q = c.before.before.before.before.before.before.before.requires in
     let x = c.before.before.before.Node-at in
-    let r = star-read q.0 a.i x.result q.1.1.0 x.ensures q.1.1.1 in
+    let r = star_read q.0 a.i x.result q.1.1.0 x.ensures q.1.1.1 in
     omega (arith, q.0, r.first, c.before.before.loop.invariant.0, c.before.before.loop.invariant.1)
 
 add-below : tie.Need-overflow-add-below invariant-loop decreases-loop
@@ -84,13 +84,13 @@ loop-again c =
     let at = c.before.before.before.before.before.before.before.loop in
     let links = c.before.before.before.before.row-at in
     let row = c.before.joined_at in
-    let r = star-read q.0 a.i x.result q.1.1.0 x.ensures q.1.1.1 in
+    let r = star_read q.0 a.i x.result q.1.1.0 x.ensures q.1.1.1 in
     let stars = row_at at.words a.i in
     let later = ap (λ (z : ℕ). bit_and links.result (2 ^ 64 - 1 - z)) c.before.before.before.below.ensures in
     let value = bit_or c.only.result row.result in (
       omega arith,
       length-set at.words _ _ ∙ at.invariant.1,
-      partly-row q.0 a.i q.1.1.0 x.result 0 0 at.b value a.words.now at.words x.ensures r.formula
+      partly_row q.0 a.i q.1.1.0 x.result 0 0 at.b value a.words.now at.words x.ensures r.formula
           c.before.before.before.before.before.before.loop-test.true at.invariant.0 at.invariant.1 q.1.0
           (star_first _ x.result a.columns.now a.words.now r.op) (star_second _ x.result a.columns.now r.op)
           (row_told x.result 23 a.n 0 0 at.words a.i (at.b - 1) value r.op
@@ -108,9 +108,9 @@ returns c =
     let q = c.before.before.before.before.before.before.requires in
     let x = c.before.before.Node-at in
     let at = c.before.loop in
-    let r = star-read q.0 a.i x.result q.1.1.0 x.ensures q.1.1.1 in
+    let r = star_read q.0 a.i x.result q.1.1.0 x.ensures q.1.1.1 in
     let none : at.b ≡ 0 = omega arith in
-    partly-all q.0.few_cycles a.i at.b a.words.now at.words none r.formula at.invariant.2
+    partly_all q.0.few_cycles a.i at.b a.words.now at.words none r.formula at.invariant.2
 
 pub put-star-spec : {M : Type 1} → statement M
 put-star-spec =

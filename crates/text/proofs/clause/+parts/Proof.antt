@@ -1,7 +1,7 @@
 -- `text::clause::parts` meets its contract; there is one part fewer to read at each call of itself.
 use Prim.Native.Nat.{ℕ, ◌<◌}
 use native.Mathlib.Omega.{arith}
-use Rattle.text.proofs.Clauses.{one-read, more-read, next_ready}
+use Rattle.text.proofs.Clauses.{one_read, more_read, next_ready}
 use borrow.Author.Rules.{rules}
 use borrow.Fn.Kinds.{In}
 use borrow.Fn.PlainCycle.{Measures, is, falls, and}
@@ -37,11 +37,11 @@ claims t = (
 )
 
 module _ (t : ℕ) where
-  part-requires : lts.Need-part-requires (claims t) (given t) self.Post
-  part-requires c κs = c.before.before.before.requires.1.0
+  part_requires : lts.Need-part-requires (claims t) (given t) self.Post
+  part_requires c κs = c.before.before.before.requires.1.0
 
-  with-first-requires : lts.Need-with-first-requires (claims t) (given t) self.Post
-  with-first-requires c κs = search rules
+  with_first_requires : lts.Need-with-first-requires (claims t) (given t) self.Post
+  with_first_requires c κs = search rules
 
   same_length : lts.Need-same-length (claims t) (given t) self.Post
   same_length c = search rules
@@ -50,47 +50,47 @@ module _ (t : ℕ) where
   returns c =
       let first = c.before.before.before.before.part in
       let asked = c.before.before.before.before.before.before.before.before.requires.1 in
-      one-read c.before.if1.true asked.1 asked.2 first.ensures c.with_first.ensures
+      one_read c.before.if1.true asked.1 asked.2 first.ensures c.with_first.ensures
 
-  sign-requires : lts.Need-sign-requires (claims t) (given t) self.Post
-  sign-requires c κs = search rules
+  sign_requires : lts.Need-sign-requires (claims t) (given t) self.Post
+  sign_requires c κs = search rules
 
   sub_parts : lts.Need-overflow-sub-parts (claims t) (given t) self.Post
   sub_parts c = omega (arith, c.before.if1.false)
 
-  parts-requires : lts.Need-parts-requires (claims t) (given t) self.Post
-  parts-requires c κs =
+  parts_requires : lts.Need-parts-requires (claims t) (given t) self.Post
+  parts_requires c κs =
       let first = c.before.before.before.before.before.part in
       let asked = c.before.before.before.before.before.before.before.before.before.requires in (
         omega (arith, asked.0, c.before.before.if1.false),
         (next_ready asked.1.0 first.ensures c.before.sign.ensures first.auto.1.1.1.0, asked.1.1, asked.1.2),
       )
 
-  with-first-requires-2 : lts.Need-with-first-requires-2 (claims t) (given t) self.Post
-  with-first-requires-2 c κs = search rules
+  with_first_requires_2 : lts.Need-with-first-requires-2 (claims t) (given t) self.Post
+  with_first_requires_2 c κs = search rules
 
-  same-length-2 : lts.Need-same-length-2 (claims t) (given t) self.Post
-  same-length-2 c = search rules
+  same_length_2 : lts.Need-same-length-2 (claims t) (given t) self.Post
+  same_length_2 c = search rules
 
-  returns-2 : lts.Need-returns-2 (claims t) (given t) self.Post
-  returns-2 c =
+  returns_2 : lts.Need-returns-2 (claims t) (given t) self.Post
+  returns_2 c =
       let rest = c.before.before.before.parts in
       let comma = c.before.before.before.before.before.sign in
       let more = c.before.before.before.before.before.before.if1.false in
       let first = c.before.before.before.before.before.before.before.before.before.part in
-      more-read first.ensures comma.ensures rest.ensures (omega (arith, more)) c.with-first2.ensures
+      more_read first.ensures comma.ensures rest.ensures (omega (arith, more)) c.with-first2.ensures
 
 pub +parts-spec : {M : Type 1} → statement M
 +parts-spec =
     close μ
     (λ t. lts.spec (claims t) (given t) self.Post
-    (part-requires t)
-    (with-first-requires t)
+    (part_requires t)
+    (with_first_requires t)
     (same_length t)
     (returns t)
-    (sign-requires t)
+    (sign_requires t)
     (sub_parts t)
-    (parts-requires t)
-    (with-first-requires-2 t)
-    (same-length-2 t)
-    (returns-2 t))
+    (parts_requires t)
+    (with_first_requires_2 t)
+    (same_length_2 t)
+    (returns_2 t))

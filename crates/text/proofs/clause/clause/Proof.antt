@@ -2,7 +2,7 @@
 use mathlib.Core.Path.{refl}
 use native.Mathlib.Omega.{arith}
 use borrow.Author.Tests.{not-true, not-false}
-use Rattle.text.proofs.Clauses.{type_leafs, used-some, parts_ready, clause-unread, clause_fits_lem, clause-well, clause-onward, clause_read}
+use Rattle.text.proofs.Clauses.{type_leafs, used-some, parts_ready, clause_unread, clause_fits_lem, clause_well, clause_onward, clause_read}
 use borrow.Author.Rules.{rules}
 use Rattle.text.proofs.clause.clause.Statement.{statement}
 use Rattle.text.proofs.clause.clause.Tie as tie
@@ -41,7 +41,7 @@ returns c =
     let bracket = at-parts.before.before.sign in
     let used = at-parts.before.before.before.parts-used in
     let word = at-parts.before.before.before.before.before.word in
-    clause-unread (type_leafs word.ensures) word.ensures.range used.ensures bracket.ensures at-parts.parts.ensures
+    clause_unread (type_leafs word.ensures) word.ensures.range used.ensures bracket.ensures at-parts.parts.ensures
     c.before.before.before.sign2.ensures (not-true _ c.if1.true) refl
 
 put-clause-requires : tie.Need-put-clause-requires
@@ -53,9 +53,9 @@ put-clause-requires c κs =
     let asked = at-parts.before.before.before.before.before.before.before.before.before.requires in
     let close = c.before.before.before.before.sign2.ensures in
     let final = not-false _ c.before.if1.false in
-    let on = clause-onward (type_leafs word) word.range used bracket at-parts.parts.ensures close final in
+    let on = clause_onward (type_leafs word) word.range used bracket at-parts.parts.ensures close final in
     let few =
-    asked.0.clauses_taken (clause-well (type_leafs word) word.range used bracket at-parts.parts.ensures close final) in (
+    asked.0.clauses_taken (clause_well (type_leafs word) word.range used bracket at-parts.parts.ensures close final) in (
       asked.0.clauses_area,
       omega arith,
       λ _. clause_fits_lem (type_leafs word) word.range used bracket at-parts.parts.ensures close final,

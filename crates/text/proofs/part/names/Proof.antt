@@ -3,7 +3,7 @@ use Prim.Native.Nat.{◌-◌}
 use native.Mathlib.Omega.{arith}
 use borrow.Author.Tests.{not-true, not-false}
 use lib.ListN.{length}
-use Rattle.text.proofs.Parts.{SoFar, no_names_lem, one_more, twice, names-read, twice_read}
+use Rattle.text.proofs.Parts.{SoFar, no_names_lem, one_more, twice, names_read, twice_read}
 use borrow.Author.Rules.{rules}
 use Rattle.text.proofs.part.names.Statement.{statement}
 use Rattle.text.proofs.part.names.Tie as tie
@@ -24,7 +24,7 @@ returns : tie.Need-returns invariant-loop decreases-loop
 returns c =
     let at = c.before.before.before.loop in
     let name = c.before.before.name in
-    names-read _ _ at.mask at.here at.invariant name.result name.ensures (not-true _ c.if1.true) _
+    names_read _ _ at.mask at.here at.invariant name.result name.ensures (not-true _ c.if1.true) _
 
 has-name-requires : tie.Need-has-name-requires invariant-loop decreases-loop
 has-name-requires c κs =

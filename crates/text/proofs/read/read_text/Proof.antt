@@ -1,7 +1,7 @@
 -- `text::read::read_text` meets its contract.
 use borrow.Author.Tests.{not-true, not-false}
 use native.Mathlib.Omega.{arith}
-use Rattle.text.proofs.Text.{read-deep, unended-outside, unread-outside, nothing_refused, read-by-number, read_whole}
+use Rattle.text.proofs.Text.{read_deep, unended_outside, unread_outside, nothing_refused, read_by_number, read_whole}
 use mathlib.Core.Path.{sym, ◌∙◌}
 use borrow.Author.Rules.{rules}
 use Rattle.text.proofs.read.read_text.Statement.{statement}
@@ -11,7 +11,7 @@ too-deep-requires : tie.Need-too-deep-requires
 too-deep-requires c κs = search rules
 
 returns : tie.Need-returns
-returns c = read-deep _ _ _ c.before.too-deep.ensures c.if1.true
+returns c = read_deep _ _ _ c.before.too-deep.ensures c.if1.true
 
 ends-line-requires : tie.Need-ends-line-requires
 ends-line-requires c κs = search rules
@@ -19,7 +19,7 @@ ends-line-requires c κs = search rules
 returns-2 : tie.Need-returns-2
 returns-2 c =
     let deep = c.before.before in
-    unended-outside _ _ _ deep.before.too-deep.ensures deep.if1.false _ c.before.ends-line.ensures (not-true _ c.if2.true)
+    unended_outside _ _ _ deep.before.too-deep.ensures deep.if1.false _ c.before.ends-line.ensures (not-true _ c.if2.true)
 
 no-nodes-requires : tie.Need-no-nodes-requires
 no-nodes-requires c κs = search rules
@@ -42,7 +42,7 @@ returns-3 c =
     let said = c.before.before.before.before.sheet in
     let empty_nodes = c.before.before.before.before.before.before.before.before.no-nodes.ensures in
     let empty_clauses = c.before.before.before.before.before.before.before.no_clauses.ensures in
-    unread-outside _ _ _ ends.before.before.before.too-deep.ensures ends.before.before.if1.false _ _ _ _ said.result empty_nodes empty_clauses
+    unread_outside _ _ _ ends.before.before.before.too-deep.ensures ends.before.before.if1.false _ _ _ _ said.result empty_nodes empty_clauses
     said.ensures (not-true _ c.if3.true)
 
 slice-aggregate-refusal : tie.Need-slice-aggregate-refusal
@@ -60,7 +60,7 @@ returns-4 c =
     let said = c.before.before.before.before.before.before.before.before.sheet in
     let empty_nodes = c.before.before.before.before.before.before.before.before.before.before.before.before.no-nodes.ensures in
     let empty_clauses = c.before.before.before.before.before.before.before.before.before.before.before.no_clauses.ensures in
-    read-by-number _ _ _ ends.before.before.before.too-deep.ensures ends.before.before.if1.false _ _ _ _ said.result empty_nodes empty_clauses said.ensures _
+    read_by_number _ _ _ ends.before.before.before.too-deep.ensures ends.before.before.if1.false _ _ _ _ said.result empty_nodes empty_clauses said.ensures _
     ends.before.ends-line.ensures (not-false _ ends.if2.false) (not-false _ c.before.before.before.before.if3.false) _ c.before.refusal.ensures c.if4.true
 
 slice-aggregate-assemble : tie.Need-slice-aggregate-assemble

@@ -1,6 +1,6 @@
 -- `text::read::refusal` meets its contract.
 use Rattle.typed.specs.Draft.{draft}
-use Rattle.text.proofs.Text.{many-nodes, many-clauses, by-sheet, by-output, by-none}
+use Rattle.text.proofs.Text.{many_nodes, many_clauses, by_sheet, by_output, by_none}
 use borrow.Author.Rules.{rules}
 use Rattle.text.proofs.read.refusal.Statement.{statement}
 use Rattle.text.proofs.read.refusal.Tie as tie
@@ -10,14 +10,14 @@ returns c =
     let a = c.before.before.before.args in
     let x = draft a.nodes.now a.n in
     let u = draft a.clauses.now a.c in
-    many-nodes a.s a.m x u a.lent c.if1.true
+    many_nodes a.s a.m x u a.lent c.if1.true
 
 returns-2 : tie.Need-returns-2
 returns-2 c =
     let a = c.before.before.before.before.args in
     let x = draft a.nodes.now a.n in
     let u = draft a.clauses.now a.c in
-    many-clauses a.s a.m x u a.lent c.before.if1.false c.if2.true
+    many_clauses a.s a.m x u a.lent c.before.if1.false c.if2.true
 
 sheet-refusal-requires : tie.Need-sheet-refusal-requires
 sheet-refusal-requires c κs = search rules
@@ -27,7 +27,7 @@ returns-3 c =
     let a = c.before.before.before.before.before.before.args in
     let x = draft a.nodes.now a.n in
     let u = draft a.clauses.now a.c in
-    by-sheet a.s a.m x u a.lent c.before.before.before.if1.false c.before.before.if2.false _
+    by_sheet a.s a.m x u a.lent c.before.before.before.if1.false c.before.before.if2.false _
     c.before.sheet-refusal.ensures c.if3.true
 
 returns-4 : tie.Need-returns-4
@@ -35,7 +35,7 @@ returns-4 c =
     let a = c.before.before.before.before.before.before.before.args in
     let x = draft a.nodes.now a.n in
     let u = draft a.clauses.now a.c in
-    by-output a.s a.m x u a.lent c.before.before.before.before.if1.false c.before.before.before.if2.false _
+    by_output a.s a.m x u a.lent c.before.before.before.before.if1.false c.before.before.before.if2.false _
     c.before.before.sheet-refusal.ensures
     c.before.if3.false c.if4.true
 
@@ -44,7 +44,7 @@ returns-5 c =
     let a = c.before.before.before.before.before.before.before.args in
     let x = draft a.nodes.now a.n in
     let u = draft a.clauses.now a.c in
-    by-none a.s a.m x u a.lent c.before.before.before.before.if1.false c.before.before.before.if2.false _
+    by_none a.s a.m x u a.lent c.before.before.before.before.if1.false c.before.before.before.if2.false _
     c.before.before.sheet-refusal.ensures
     c.before.if3.false c.if4.false
 

@@ -4,7 +4,7 @@ use mathlib.Core.Path.{refl, sym, ◌∙◌}
 use native.Mathlib.Omega.{arith}
 use borrow.Author.Tests.{not-true, not-false}
 use lib.ListN.{length}
-use Rattle.text.proofs.Lines.{LinesSoFar, no_lines, line-more, lines_read, lines-fail, lines_unread}
+use Rattle.text.proofs.Lines.{LinesSoFar, no_lines, line_more, lines_read, lines_fail, lines_unread}
 use borrow.Author.Rules.{rules}
 use Rattle.text.proofs.sheet.lines.Statement.{statement}
 use Rattle.text.proofs.sheet.lines.Tie as tie
@@ -46,7 +46,7 @@ returns-2 : tie.Need-returns-2 invariant-loop decreases-loop
 returns-2 c =
     let at = c.before.before.before.before.before.before.before.before.before.before.before.loop in
     let said = c.before.before.before.before.before.before.line in
-    lines-fail _ _ _ _ at.here _ at.count _ at.many at.invariant _ _ _ _ _ said.result _ said.ensures (not-true _ c.if3.true) refl
+    lines_fail _ _ _ _ at.here _ at.count _ at.many at.invariant _ _ _ _ _ said.result _ said.ensures (not-true _ c.if3.true) refl
 
 loop-less : tie.Need-loop-smaller invariant-loop decreases-loop
 loop-less c =
@@ -59,7 +59,7 @@ loop-again : tie.Need-loop-preserved invariant-loop decreases-loop
 loop-again c =
     let at = c.before.before.before.before.before.before.before.before.before.before.before.loop in
     let said = c.before.before.before.before.before.before.line in
-    line-more _ _ _ _ at.here _ at.count _ at.many at.invariant _ _ said.result said.ensures
+    line_more _ _ _ _ at.here _ at.count _ at.many at.invariant _ _ said.result said.ensures
     said.auto.1.1.0 said.auto.1.1.1.1.0 (not-false _ c.if3.false)
 
 same-length-3 : tie.Need-same-length-3 invariant-loop decreases-loop

@@ -1,5 +1,5 @@
 -- `text::sheet::sheet` meets its contract.
-use Rattle.text.proofs.Lines.{lines_ready, sheet-read}
+use Rattle.text.proofs.Lines.{lines_ready, sheet_read}
 use borrow.Author.Rules.{rules}
 use Rattle.text.proofs.sheet.sheet.Statement.{statement}
 use Rattle.text.proofs.sheet.sheet.Tie as tie
@@ -30,7 +30,7 @@ returns c =
     let m = c.before.before.before.before.before.before.before.before.number2 in
     let end = c.before.before.before.before.before.before.before.sign in
     let said = c.before.before.before.before.lines in
-    sheet-read _ _ _ _ _ s.result m.result end.result said.result s.ensures m.ensures end.ensures said.ensures
+    sheet_read _ _ _ _ _ s.result m.result end.result said.result s.ensures m.ensures end.ensures said.ensures
 
 pub sheet-spec : {M : Type 1} → statement M
 sheet-spec =

@@ -5,7 +5,7 @@ use Prim.Native.Nat.{ℕ, ◌-◌, ◌≤◌}
 use lib.ListN.{length, get_or, length-set}
 use Rattle.stored.specs.Tree.{earlier}
 use Rattle.traces.specs.Columns.{signal_column, columns_of}
-use Rattle.stored.proofs.Entries.{entries_none, entries_next, entries-all}
+use Rattle.stored.proofs.Entries.{entries_none, entries_next, entries_all}
 use Rattle.traces.proofs.trace.columns.Statement.{statement}
 use Rattle.traces.proofs.trace.columns.Tie as tie
 
@@ -46,7 +46,7 @@ unfolding columns_of
 returns c =
     let a = c.before.before.before.args in
     let end : c.before.loop.k ≡ a.s = omega arith in
-    entries-all _ 19 _ _ c.before.loop.invariant.1
+    entries_all _ 19 _ _ c.before.loop.invariant.1
     (λ j. c.before.loop.invariant.2 j ∙ ap (λ (k : ℕ). earlier k 0 (signal_column a.trace.now a.n) j) end)
 
 pub columns_spec : {M : Type 1} → statement M

@@ -6,7 +6,7 @@ use native.Mathlib.Omega.{arith}
 use borrow.Author.Tests.{eq-eqb, ne_eqb, le-leb, lt-leb, not-true, not-false}
 use mathlib.Core.Bool.{true}
 use Rattle.traces.specs.Trace.{cycle_count, trace_framed, trace_versioned, same_signals, cycles_right}
-use Rattle.traces.proofs.Answer.{TraceHeaded, trace-framed-long, refused10, refused11, refused12, refused13, trace_accepted}
+use Rattle.traces.proofs.Answer.{TraceHeaded, trace_framed_long, refused10, refused11, refused12, refused13, trace_accepted}
 
 -- what is known past the first three tests
 rule10 : (c : tie.Else1) → trace_framed c.before.before.before.args.trace.now ≡ true
@@ -34,21 +34,21 @@ unfolding trace_framed
 returns c = refused10 _ _ (sym c.before.is_framed.ensures ∙ not-true _ c.if1.true)
 
 byte-requires : tie.Need-byte-requires
-byte-requires c κs = omega (arith, trace-framed-long 0 _ (rule10 c))
+byte-requires c κs = omega (arith, trace_framed_long 0 _ (rule10 c))
 
 returns-2 : tie.Need-returns-2
 unfolding trace_versioned
 returns-2 c = refused11 _ _ (rule10 c.before.before) (ne_eqb _ 1 (λ e. c.if2.true (c.before.byte.ensures.0 ∙ e)))
 
 byte-requires-2 : tie.Need-byte-requires-2
-byte-requires-2 c κs = omega (arith, trace-framed-long 0 _ (rule10 c.before.before))
+byte-requires-2 c κs = omega (arith, trace_framed_long 0 _ (rule10 c.before.before))
 
 returns-3 : tie.Need-returns-3
 unfolding same_signals
 returns-3 c = refused12 _ _ (rule10 c.before.before.before.before) (rule11 c.before.before) (ne_eqb _ _ (λ e. c.if3.true (c.before.byte2.ensures.0 ∙ e)))
 
 sub-n : tie.Need-overflow-sub-n
-sub-n c = omega (arith, trace-framed-long 0 _ (head c).rule10)
+sub-n c = omega (arith, trace_framed_long 0 _ (head c).rule10)
 
 mul-if4 : tie.Need-overflow-mul-if4
 mul-if4 c = omega arith

@@ -2,7 +2,7 @@
 use mathlib.Core.Path.{sym, ◌∙◌}
 use native.Mathlib.Omega.{arith}
 use borrow.Author.Rules.{rules}
-use Rattle.typed.proofs.Writing.{assembled, assembled-length}
+use Rattle.typed.proofs.Writing.{assembled, assembled_length}
 use Rattle.typed.proofs.draft.assemble.Statement.{statement}
 use Rattle.typed.proofs.draft.assemble.Tie as tie
 
@@ -58,7 +58,7 @@ returns c =
       size =
           c.clauses-end.ensures
           ∙ sym
-          (assembled-length a.out.now a.nodes.now a.clauses.now a.s a.m a.n a.c
+          (assembled_length a.out.now a.nodes.now a.clauses.now a.s a.m a.n a.c
           (omega (arith, p.0, p.2, p.4)) (omega (arith, p.1, p.2)) (omega (arith, p.3, p.4)));
       exact = c.clauses-end.ensures;
     }

@@ -3,7 +3,7 @@ use borrow.Author.Rules.{rules}
 use native.Mathlib.Omega.{arith}
 use Rattle.stored.specs.Written.{node_bytes}
 use Rattle.typed.specs.Draft.{put}
-use Rattle.typed.proofs.Writing.{added-there, added_none}
+use Rattle.typed.proofs.Writing.{added_there, added_none}
 use Rattle.typed.proofs.draft.put.Statement.{statement}
 use Rattle.typed.proofs.draft.put.Tie as tie
 
@@ -32,7 +32,7 @@ returns-2 : tie.Need-returns-2
 unfolding put
 returns-2 c =
     let a = c.before.before.before.before.before.before.args in
-    rw c.before.before.write-node.ensures (added-there 6 64 (node_bytes a.x) a.nodes.now a.count (omega arith))
+    rw c.before.before.write-node.ensures (added_there 6 64 (node_bytes a.x) a.nodes.now a.count (omega arith))
 
 pub put_spec : {M : Type 1} → statement M
 put_spec =

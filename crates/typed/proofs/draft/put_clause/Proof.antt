@@ -2,7 +2,7 @@
 use borrow.Author.Rules.{rules}
 use native.Mathlib.Omega.{arith}
 use Rattle.typed.specs.Draft.{clause_bytes, put_clause}
-use Rattle.typed.proofs.Writing.{added-there, added_none}
+use Rattle.typed.proofs.Writing.{added_there, added_none}
 use Rattle.typed.proofs.draft.put_clause.Statement.{statement}
 use Rattle.typed.proofs.draft.put_clause.Tie as tie
 
@@ -31,7 +31,7 @@ returns-2 : tie.Need-returns-2
 unfolding put_clause
 returns-2 c =
     let a = c.before.before.before.before.before.before.args in
-    rw c.before.before.write-clause.ensures (added-there 11 8 (clause_bytes a.x) a.clauses.now a.count (omega arith))
+    rw c.before.before.write-clause.ensures (added_there 11 8 (clause_bytes a.x) a.clauses.now a.count (omega arith))
 
 pub put-clause-spec : {M : Type 1} → statement M
 put-clause-spec =

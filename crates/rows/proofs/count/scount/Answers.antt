@@ -1,0 +1,12 @@
+-- `rows::count::scount` meets its contract.
+use Prim.Native.Nat.{suc}
+use native.Mathlib.Numerals.{add-one}
+use Rattle.rows.proofs.Counts.{counted_as}
+use mathlib.Core.Path.{◌∙◌}
+use Rattle.rows.specs.Symbols.{comparison_of}
+use Rattle.rows.proofs.count.scount.Goals as goal
+
+pub returns : goal.returns
+returns c =
+    let a = c.args in
+    c.counted.ensures ∙ counted_as suc a.n (comparison_of a.comparison) a.column a.number 1 a.b add-one

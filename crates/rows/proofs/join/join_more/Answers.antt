@@ -1,0 +1,20 @@
+-- `rows::join::join_more` meets its contract.
+use mathlib.Core.Path.{ap, ap₂, ◌∙◌}
+use Prim.Native.Nat.{ℕ}
+use lib.ListN.{get_or}
+use lib.Bits.{bit_or}
+use Rattle.rows.specs.Row.{joined}
+use Rattle.rows.proofs.Joins.{join_new}
+use Rattle.rows.proofs.join.join_more.Goals as goal
+use Rattle.rows.proofs.join.join_more.Goals.{then-had-row, else-had-row}
+
+pub returns : goal.returns
+returns c =
+    let a = c.args in
+    let rows : ℕ → ℕ = λ i. get_or a.second.now i 0 in
+    let join = c.join.ensures in
+    elim c.if-had-row.branch [
+      then-had-row w ↦ ap₂ bit_or (w.out-is ∙ c.requires.1) (join ∙ ap (λ (x : ℕ). joined x rows) w.left-is)
+        ∙ join_new a.row a.had rows w.if-had-row.true
+      | else-had-row w ↦ ap₂ bit_or w.out-is (join ∙ ap (λ (x : ℕ). joined x rows) w.left-is)
+    ]

@@ -1,0 +1,19 @@
+-- `rows::shape::stretch` meets its contract.
+use mathlib.Core.Path.{ap, ap₂, ◌∙◌}
+use Prim.Native.Nat.{ℕ}
+use native.Mathlib.Omega.{arith}
+use Rattle.rows.proofs.Shapes.{held_is}
+use lib.Bits.{bit_and}
+use mathlib.Core.Bool.{not}
+use Rattle.semantics.specs.Cycles.{some_below}
+use Rattle.semantics.specs.Proposition.{bit}
+use Rattle.rows.specs.Row.{word}
+use Rattle.rows.proofs.shape.stretch.Goals as goal
+
+pub returns : goal.returns
+returns c =
+    let a = c.args in
+    let p = c.requires in
+    ap₂ bit_and c.cycles_from.ensures
+    (c.up_to_first-ends.ensures ∙ ap (λ (x : ℕ). word 64 (λ e. not (some_below e (bit x)))) c.lacking.ensures)
+    ∙ held_is (λ e. e) a.n a.column a.b (λ e l. omega arith) p.1
