@@ -86,6 +86,14 @@ def respelled(text, odds, members):
     return WORD.sub(put, text)
 
 
+def renamed(text):
+    """The role of an assumption: `assumption` is a tactic, which clauses and specs/ may not name."""
+    if not re.search(r"specs\.Clause\.\{[^}]*\bassumption\b|^  assumption commitment|^(old|new): .*\bassumption\b", text, re.M):
+        return text
+    plain = lambda line: line if re.match(r" *(--|#)", line) else re.sub(r"(?<![\w.'-])assumption(?![\w'-])", "assumption_role", line)
+    return "\n".join(map(plain, text.split("\n")))
+
+
 def rewrite(path, change):
     with open(path, encoding="utf-8") as f:
         old = f.read()
@@ -99,10 +107,10 @@ def main():
     os.chdir(os.path.join(os.path.dirname(os.path.realpath(__file__)), ".."))
     odds, own, members = names()
     for path in SPECS + PROOFS:
-        rewrite(path, lambda t: respelled(t, odds | own.get(path, {}), members))
+        rewrite(path, lambda t: renamed(respelled(t, odds | own.get(path, {}), members)))
     for path in sorted(glob.glob("crates/*/src/*.rt") + glob.glob("crates/*/must-fail/*.edit")):
         code = {n: v for n, v in odds.items() if re.search("[A-Z]", n) or "-" in n}
-        rewrite(path, lambda t: respelled(t, code, members))
+        rewrite(path, lambda t: renamed(respelled(t, code, members)) if path.endswith(".edit") else respelled(t, code, members))
     for path in sorted(glob.glob("*.md") + glob.glob("docs/**/*.md", recursive=True)):
         code = {n: v for n, v in odds.items() if re.search("[A-Z]", n)}
         rewrite(path, lambda t: re.sub(r"`[^`\n]+`", lambda m: re.sub(r"[^\s(){};,.\"`]+", lambda w: code.get(w.group(0), w.group(0)), m.group(0)), t))

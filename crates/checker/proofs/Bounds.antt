@@ -12,7 +12,7 @@ use lib.Pow.{pow_mono}
 use native.Mathlib.Nat.{lt_of_lt_of_le}
 use Rattle.stored.specs.Layout.{least_words}
 use Rattle.semantics.specs.Proposition.{Trace}
-use Rattle.semantics.specs.Clause.{Role, assumption, commitment, Clause}
+use Rattle.semantics.specs.Clause.{Role, assumption_role, commitment, Clause}
 use Rattle.semantics.specs.Verdict as semantics
 use Rattle.semantics.specs.Verdict.{finding_of, verdict}
 use Rattle.semantics.proofs.Verdict.{FirstFailing, excused_first, broken_first}
@@ -63,7 +63,7 @@ module _ (cs : List Clause) (σ : Trace) (few : length cs ≤ 8) (short : length
 
   finding_small : (f : semantics.Finding) → finding_of cs σ ≡ f → SmallFinding (told f)
   unfolding told
-  finding_small (semantics.Excused clause) e = let w = excused_first cs σ clause e in numbered assumption clause w.0 w.1
+  finding_small (semantics.Excused clause) e = let w = excused_first cs σ clause e in numbered assumption_role clause w.0 w.1
   finding_small (semantics.Broken p) e =
       let w = broken_first cs σ p e in
       let at = w.place in

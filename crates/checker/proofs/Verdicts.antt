@@ -11,7 +11,7 @@ use lib.Dec.{eqb}
 use lib.ListN.{length}
 use borrow.Author.Tests.{eq-eqb, ne_eqb, lt-ltb}
 use Rattle.semantics.specs.Proposition.{Trace}
-use Rattle.semantics.specs.Clause.{Role, assumption, commitment, advice, Clause, breaks, fails}
+use Rattle.semantics.specs.Clause.{Role, assumption_role, commitment, advice, Clause, breaks, fails}
 use Rattle.semantics.specs.Verdict as semantics
 use Rattle.semantics.specs.Verdict.{has_role, fails_as, first_place, excused_or, broken_or, finding_of, advice_of}
 use Rattle.semantics.proofs.Tests.{and_intro, and_false_left, and_false_right}
@@ -34,14 +34,14 @@ use Rattle.places.specs.Laid.{Laid}
 use Rattle.intervals.proofs.Places.{fails_least, place_least}
 
 -- ---- the first failing clause of a list in order
-excused_none : (from n : ℕ) (f : ℕ → Clause) (σ : Trace) (v : semantics.Finding) → ((k : ℕ) → k < n → fails_as assumption σ (f k) ≡ false)
+excused_none : (from n : ℕ) (f : ℕ → Clause) (σ : Trace) (v : semantics.Finding) → ((k : ℕ) → k < n → fails_as assumption_role σ (f k) ≡ false)
     → excused_or from (in_order n f) σ v ≡ v
 unfolding in_order excused_or
 excused_none from zero f σ v h = refl
 excused_none from (suc n) f σ v h = rw (h 0 (omega arith)) (excused_none (suc from) n (λ i. f (suc i)) σ v (λ k l. h (suc k) (omega arith)))
 
-excused_at : (from n : ℕ) (f : ℕ → Clause) (σ : Trace) (v : semantics.Finding) (k : ℕ) → k < n → ((j : ℕ) → j < k → fails_as assumption σ (f j) ≡ false)
-    → fails_as assumption σ (f k) ≡ true → excused_or from (in_order n f) σ v ≡ semantics.Excused (from + k)
+excused_at : (from n : ℕ) (f : ℕ → Clause) (σ : Trace) (v : semantics.Finding) (k : ℕ) → k < n → ((j : ℕ) → j < k → fails_as assumption_role σ (f j) ≡ false)
+    → fails_as assumption_role σ (f k) ≡ true → excused_or from (in_order n f) σ v ≡ semantics.Excused (from + k)
 unfolding in_order excused_or
 excused_at from zero f σ v k l h e = absurd (omega arith)
 excused_at from (suc n) f σ v zero l h e = let z : from ≡ from + 0 = omega arith in rw e (ap semantics.Excused z)
@@ -69,13 +69,13 @@ broken_at from (suc n) f σ v (suc k) l h e =
     ∙ ap (λ (c : ℕ). semantics.Broken (first_place c (length σ) (breaks (f (suc k)) σ))) z)
 
 module _ (f : ℕ → Clause) (c : ℕ) (σ : Trace) where
-  pub finding_excused : (k place : ℕ) → First assumption f c σ k place → Excused k ≡ told (finding_of (in_order c f) σ)
+  pub finding_excused : (k place : ℕ) → First assumption_role f c σ k place → Excused k ≡ told (finding_of (in_order c f) σ)
   unfolding finding_of told
   finding_excused k place w =
       let z : 0 + k ≡ k = omega arith in
       sym (ap told (excused_at 0 c f σ (broken_or 0 (in_order c f) σ semantics.Holds) k w.below w.before w.fails ∙ ap semantics.Excused z))
 
-  pub finding_broken : (k place : ℕ) → length σ ≤ 64 → ((j : ℕ) → j < c → fails_as assumption σ (f j) ≡ false) → First commitment f c σ k place
+  pub finding_broken : (k place : ℕ) → length σ ≤ 64 → ((j : ℕ) → j < c → fails_as assumption_role σ (f j) ≡ false) → First commitment f c σ k place
       → Broken (place_of k place) ≡ told (finding_of (in_order c f) σ)
   unfolding finding_of told place_of
   finding_broken k place short h w =
@@ -86,7 +86,7 @@ module _ (f : ℕ → Clause) (c : ℕ) (σ : Trace) where
       ∙ ap (λ (n : ℕ). semantics.Broken (first_place n (length σ) (breaks (f k) σ))) z
       ∙ ap semantics.Broken (place_least (f k) σ short place w.least k w.found)))
 
-  pub finding_holds : ((j : ℕ) → j < c → fails_as assumption σ (f j) ≡ false) → ((j : ℕ) → j < c → fails_as commitment σ (f j) ≡ false)
+  pub finding_holds : ((j : ℕ) → j < c → fails_as assumption_role σ (f j) ≡ false) → ((j : ℕ) → j < c → fails_as commitment σ (f j) ≡ false)
       → Holds ≡ told (finding_of (in_order c f) σ)
   unfolding finding_of told
   finding_holds h g =

@@ -9,7 +9,7 @@ use mathlib.Core.Path.{◌≡◌, refl, ap, ap₂, ◌∙◌}
 use lib.ListN.{length}
 use Rattle.semantics.specs.Proposition.{Trace, bit}
 use Rattle.semantics.specs.Formula.{Formula, disjunction, negation}
-use Rattle.semantics.specs.Clause.{Role, assumption, commitment, advice, Clause}
+use Rattle.semantics.specs.Clause.{Role, assumption_role, commitment, advice, Clause}
 use Rattle.semantics.specs.Verdict.{same_role, has_role, fails_as, some_fails, requirement, beside_advice, without_advice, advice_of, verdict}
 use Rattle.semantics.specs.Translation.{nothing, broken_clause, join_broken, translation}
 use Rattle.semantics.proofs.Bits.{bit_lowest, bit_higher}
@@ -48,7 +48,7 @@ module _ (c : Clause) (is : c.role ≡ advice) where
   pub requirement_over : (earlier later : List Clause) (σ : Trace) → requirement (earlier ++ c ∷ later) σ ≡ requirement (earlier ++ later) σ
   unfolding requirement same_role
   requirement_over earlier later σ =
-      ap₂ (λ (a b : Bool). a || not b) (fails_over assumption refl earlier later σ) (fails_over commitment refl earlier later σ)
+      ap₂ (λ (a b : Bool). a || not b) (fails_over assumption_role refl earlier later σ) (fails_over commitment refl earlier later σ)
 
   join_over : (r : Role) → same_role r advice ≡ false → (earlier later : List Clause) (f : Formula)
       → join_broken r f (earlier ++ c ∷ later) ≡ join_broken r f (earlier ++ later)
@@ -60,7 +60,7 @@ module _ (c : Clause) (is : c.role ≡ advice) where
   pub translation_over : (earlier later : List Clause) → translation (earlier ++ c ∷ later) ≡ translation (earlier ++ later)
   unfolding translation same_role
   translation_over earlier later =
-      ap₂ (λ (f g : Formula). disjunction f (negation g)) (join_over assumption refl earlier later nothing) (join_over commitment refl earlier later nothing)
+      ap₂ (λ (f g : Formula). disjunction f (negation g)) (join_over assumption_role refl earlier later nothing) (join_over commitment refl earlier later nothing)
 
 -- ---- the formula is that of the other clauses
 join_without : (r : Role) → same_role r advice ≡ false → (cs : List Clause) (f : Formula) → join_broken r f (without_advice cs) ≡ join_broken r f cs
@@ -70,11 +70,11 @@ join_without r other (c ∷ cs) f = go c.role refl (join_without r other cs)
   where
     go : (k : Role) → c.role ≡ k → ((g : Formula) → join_broken r g (without_advice cs) ≡ join_broken r g cs)
         → join_broken r f (beside_advice k c (without_advice cs)) ≡ join_broken r (cond (has_role r c) (disjunction f (broken_clause c)) f) cs
-    go assumption e later = later (cond (has_role r c) (disjunction f (broken_clause c)) f)
+    go assumption_role e later = later (cond (has_role r c) (disjunction f (broken_clause c)) f)
     go commitment e later = later (cond (has_role r c) (disjunction f (broken_clause c)) f)
     go advice e later = rw (e, other) (later f)
 
 pub translation_without : (cs : List Clause) → translation (without_advice cs) ≡ translation cs
 unfolding translation same_role
 translation_without cs =
-    ap₂ (λ (f g : Formula). disjunction f (negation g)) (join_without assumption refl cs nothing) (join_without commitment refl cs nothing)
+    ap₂ (λ (f g : Formula). disjunction f (negation g)) (join_without assumption_role refl cs nothing) (join_without commitment refl cs nothing)

@@ -11,7 +11,7 @@ use Rattle.semantics.specs.Proposition.{Trace, Marks}
 use Rattle.semantics.specs.Formula.{Formula, disjunction, unmarked, true_of}
 use Rattle.semantics.specs.Placement.{Names, no_names, union, without, listed, Placement, unplaced, some_placement}
 use Rattle.semantics.specs.Inside.{inside}
-use Rattle.semantics.specs.Clause.{Part, ClauseType, pref, init, anti, implies, follows, triggers, Role, assumption, commitment, Clause, on, given, shortest, unanswered, breaks_at, breaks, fails}
+use Rattle.semantics.specs.Clause.{Part, ClauseType, pref, init, anti, implies, follows, triggers, Role, assumption_role, commitment, Clause, on, given, shortest, unanswered, breaks_at, breaks, fails}
 use Rattle.semantics.specs.Verdict.{has_role, fails_as, some_fails, requirement}
 use Rattle.semantics.specs.Reach.{fits, parts_fit, clause_fits, all_fit}
 use Rattle.semantics.specs.Translation.{undrawn, placed, once, unanswered_of, broken_of, broken_clause, join_broken, translation}
@@ -264,4 +264,4 @@ module _ (σ : Trace) (positive : 0 < length σ) where
   pub agreement : (cs : List Clause) → all_fit cs ≡ true → true_of (translation cs) σ ≡ requirement cs σ
   unfolding true_of translation requirement
   agreement cs w =
-      (or_is (joined_is assumption cs _ false w nothing_is) (not_is (joined_is commitment cs _ false w nothing_is))).same
+      (or_is (joined_is assumption_role cs _ false w nothing_is) (not_is (joined_is commitment cs _ false w nothing_is))).same

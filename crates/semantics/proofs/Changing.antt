@@ -7,7 +7,7 @@ use Rattle.semantics.specs.Cycles.{some_below, some_from, first_below, count_bel
 use Rattle.semantics.specs.Proposition.{Trace, signal, bit, signal_at, holds_at}
 use Rattle.semantics.specs.Formula.{Formula, holds, compared, point, conjunction, disjunction, slen, scount, equal, at_least}
 use Rattle.semantics.specs.Placement.{no_names, union, without, unplaced, marks, moved, place_name, some_placement}
-use Rattle.semantics.specs.Clause.{Part, Clause, anti, implies, assumption, commitment, on, given, breaks_at, breaks, fails}
+use Rattle.semantics.specs.Clause.{Part, Clause, anti, implies, assumption_role, commitment, on, given, breaks_at, breaks, fails}
 use Rattle.semantics.specs.Verdict.{Broken, Excused, same_role, has_role, fails_as, first_place, excused_or, broken_or, finding_of}
 
 abbrev nameless : Formula → Part
@@ -31,7 +31,7 @@ clocks = required (clock 0 8) (seen 3) ∷ required (disjunction (clock 0 6) (cl
 -- signals: 0 offer sent, 1 reply received, 2 offer withdrawn
 abbrev withdrawn : List Clause
 withdrawn =
-    record { type = anti; role = assumption; first = nameless (point (signal 2)); second = nameless (point (signal 2)); third = nameless (point (signal 2)) }
+    record { type = anti; role = assumption_role; first = nameless (point (signal 2)); second = nameless (point (signal 2)); third = nameless (point (signal 2)) }
     ∷ required (clock 0 3) (seen 1) ∷ []
 
 -- a kidney offer in minute 1 and a heart offer in minute 3, up to minute 5

@@ -10,7 +10,7 @@ use lib.Dec.{ltb, eqb}
 use Rattle.semantics.specs.Proposition.{Proposition, never, always, signal, name, negated, both_of, either_of}
 use Rattle.semantics.specs.Formula.{Formula, point, stretch, whole, unit, chop, conjunction, disjunction, star, slen, scount, sdur, drawn, at, gap, negation, for_some, equal, Symbol, low, high, either, low_stretch, high_stretch, either_stretch, steady}
 use Rattle.semantics.specs.Placement.{Names, no_names, union, without, listed}
-use Rattle.semantics.specs.Clause.{Part, ClauseType, pref, init, anti, implies, follows, triggers, Role, assumption, commitment, Clause}
+use Rattle.semantics.specs.Clause.{Part, ClauseType, pref, init, anti, implies, follows, triggers, Role, assumption_role, commitment, Clause}
 use Rattle.semantics.specs.Verdict.{has_role}
 use Rattle.semantics.specs.Reach.{proposition_within, with, within, fits, parts_fit, clause_fits, all_fit}
 use Rattle.semantics.specs.Translation.{anywhere, extended, nothing, undrawn_symbol, undrawn_mark, undrawn_gap, undrawn, once_name, placed_name, placed, once, shortest_of, unanswered_of, broken_of, broken_clause, join_broken, translation}
@@ -243,4 +243,4 @@ join_within r f (c ∷ cs) w e =
 -- the root is closed
 pub translation_closed : (cs : List Clause) → all_fit cs ≡ true → within no_names (translation cs) ≡ true
 unfolding translation within nothing
-translation_closed cs w = both (join_within assumption nothing cs w refl) (join_within commitment nothing cs w refl)
+translation_closed cs w = both (join_within assumption_role nothing cs w refl) (join_within commitment nothing cs w refl)

@@ -10,7 +10,7 @@ use lib.Dec.{ltb, eqb}
 use lib.ListN.{length}
 use borrow.Author.Tests.{ltb-false, le-leb, eq-eqb}
 use Rattle.semantics.specs.Proposition.{Trace, bit}
-use Rattle.semantics.specs.Clause.{Role, assumption, commitment, advice, Clause, breaks, fails}
+use Rattle.semantics.specs.Clause.{Role, assumption_role, commitment, advice, Clause, breaks, fails}
 use Rattle.semantics.specs.Verdict.{has_role, fails_as, some_fails, requirement, Place, Finding, Excused, Broken, Holds, first_place, excused_or, broken_or, finding_of, advice_of, verdict}
 use Rattle.semantics.specs.Lasting.{less_or, not_later, may_become, Lasting}
 use Rattle.semantics.proofs.Tests.{test, and_intro, and_left, and_right, or_left, or_right, or_elim, or_false, false_not}
@@ -100,7 +100,7 @@ excused_sooner : (m from : ℕ) (cs : List Clause) (σ : Trace) (v : Finding) �
     → may_become (excused_or from cs σ v) (Excused m) ≡ true
 unfolding excused_or may_become
 excused_sooner m from [] σ v l h = h
-excused_sooner m from (c ∷ cs) σ v l h = go (fails_as assumption σ c) (excused_sooner m (suc from) cs σ v (omega arith) h)
+excused_sooner m from (c ∷ cs) σ v l h = go (fails_as assumption_role σ c) (excused_sooner m (suc from) cs σ v (omega arith) h)
   where
     go : (a : Bool) → may_become (excused_or (suc from) cs σ v) (Excused m) ≡ true → may_become (cond a (Excused from) (excused_or (suc from) cs σ v)) (Excused m) ≡ true
     go true h = le-leb m from l
@@ -132,7 +132,7 @@ module _ (σ more : Trace) where
   unfolding excused_or may_become
   excused_longer from [] v w other h = h
   excused_longer from (c ∷ cs) v w other h =
-      go (fails_as assumption σ c) (fails_as assumption (σ ++ more) c) (as_longer assumption σ more c) (excused_longer (suc from) cs v w other h)
+      go (fails_as assumption_role σ c) (fails_as assumption_role (σ ++ more) c) (as_longer assumption_role σ more c) (excused_longer (suc from) cs v w other h)
     where
       go : (a b : Bool) → (a ≡ true → b ≡ true) → may_become (excused_or (suc from) cs σ v) (excused_or (suc from) cs (σ ++ more) w) ≡ true
           → may_become (cond a (Excused from) (excused_or (suc from) cs σ v)) (cond b (Excused from) (excused_or (suc from) cs (σ ++ more) w)) ≡ true
@@ -173,17 +173,17 @@ module _ (σ more : Trace) where
       ]
 
   -- once it is false, it is true of a longer trace exactly if an assumption fails of that
-  pub requirement_false : (cs : List Clause) → requirement cs σ ≡ false → requirement cs (σ ++ more) ≡ some_fails assumption cs (σ ++ more)
+  pub requirement_false : (cs : List Clause) → requirement cs σ ≡ false → requirement cs (σ ++ more) ≡ some_fails assumption_role cs (σ ++ more)
   unfolding requirement
-  requirement_false cs h = go (some_fails assumption cs σ) (some_fails commitment cs σ) h (some_longer commitment cs)
+  requirement_false cs h = go (some_fails assumption_role cs σ) (some_fails commitment cs σ) h (some_longer commitment cs)
     where
       go : (a b : Bool) → a || not b ≡ false → (b ≡ true → some_fails commitment cs (σ ++ more) ≡ true)
-          → (some_fails assumption cs (σ ++ more) || not (some_fails commitment cs (σ ++ more))) ≡ some_fails assumption cs (σ ++ more)
+          → (some_fails assumption_role cs (σ ++ more) || not (some_fails commitment cs (σ ++ more))) ≡ some_fails assumption_role cs (σ ++ more)
       go true b h f = absurd (true≢false h)
-      go false true h f = rw (f refl) (or_false (some_fails assumption cs (σ ++ more)))
+      go false true h f = rw (f refl) (or_false (some_fails assumption_role cs (σ ++ more)))
       go false false h f = absurd (true≢false h)
 
   -- and from there on it is true
-  pub requirement_true : (cs : List Clause) → some_fails assumption cs σ ≡ true → requirement cs (σ ++ more) ≡ true
+  pub requirement_true : (cs : List Clause) → some_fails assumption_role cs σ ≡ true → requirement cs (σ ++ more) ≡ true
   unfolding requirement
-  requirement_true cs h = or_left (some_fails assumption cs (σ ++ more)) (not (some_fails commitment cs (σ ++ more))) (some_longer assumption cs h)
+  requirement_true cs h = or_left (some_fails assumption_role cs (σ ++ more)) (not (some_fails commitment cs (σ ++ more))) (some_longer assumption_role cs h)

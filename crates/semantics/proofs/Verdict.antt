@@ -9,19 +9,19 @@ use mathlib.Core.Path.{◌≡◌, refl, sym, ap, ◌∙◌}
 use lib.ListN.{length}
 use Rattle.semantics.specs.Cycles.{some_below, first_below}
 use Rattle.semantics.specs.Proposition.{Trace}
-use Rattle.semantics.specs.Clause.{Role, assumption, commitment, Clause, breaks, fails}
+use Rattle.semantics.specs.Clause.{Role, assumption_role, commitment, Clause, breaks, fails}
 use Rattle.semantics.specs.Verdict.{has_role, fails_as, some_fails, requirement, Place, Finding, Excused, Broken, Holds, is_broken, first_place, excused_or, broken_or, finding_of}
 use Rattle.semantics.proofs.Tests.{is_false, false_not, and_left, and_right}
 use Rattle.semantics.proofs.Cycles.{below_intro, first_least}
 
 excused_broken : (from : ℕ) (cs : List Clause) (σ : Trace) (v : Finding)
-    → is_broken (excused_or from cs σ v) ≡ (not (some_fails assumption cs σ) && is_broken v)
+    → is_broken (excused_or from cs σ v) ≡ (not (some_fails assumption_role cs σ) && is_broken v)
 unfolding excused_or some_fails is_broken
 excused_broken from [] σ v = refl
-excused_broken from (c ∷ cs) σ v = go (fails_as assumption σ c) (excused_broken (suc from) cs σ v)
+excused_broken from (c ∷ cs) σ v = go (fails_as assumption_role σ c) (excused_broken (suc from) cs σ v)
   where
-    go : (a : Bool) → is_broken (excused_or (suc from) cs σ v) ≡ (not (some_fails assumption cs σ) && is_broken v)
-        → is_broken (cond a (Excused from) (excused_or (suc from) cs σ v)) ≡ (not (a || some_fails assumption cs σ) && is_broken v)
+    go : (a : Bool) → is_broken (excused_or (suc from) cs σ v) ≡ (not (some_fails assumption_role cs σ) && is_broken v)
+        → is_broken (cond a (Excused from) (excused_or (suc from) cs σ v)) ≡ (not (a || some_fails assumption_role cs σ) && is_broken v)
     go true h = refl
     go false h = h
 
@@ -40,8 +40,8 @@ pub broken_exactly : (cs : List Clause) (σ : Trace) → is_broken (finding_of c
 unfolding finding_of requirement
 broken_exactly cs σ =
     excused_broken 0 cs σ (broken_or 0 cs σ Holds)
-    ∙ ap (λ (b : Bool). not (some_fails assumption cs σ) && b) (broken_broken 0 cs σ)
-    ∙ go (some_fails assumption cs σ) (some_fails commitment cs σ)
+    ∙ ap (λ (b : Bool). not (some_fails assumption_role cs σ) && b) (broken_broken 0 cs σ)
+    ∙ go (some_fails assumption_role cs σ) (some_fails commitment cs σ)
   where
     go : (a b : Bool) → not a && b ≡ not (a || not b)
     go true b = refl
@@ -89,16 +89,16 @@ never : (n : ℕ) (p : Place) → Excused n ≡ Broken p → ⊥
 never n p h = let z : ◌≡◌ {A = ℕ} 0 1 = cc in omega arith
 
 excused_from : (from : ℕ) (cs : List Clause) (σ : Trace) (v : Finding) (n : ℕ) → (v ≡ Excused n → ⊥) → excused_or from cs σ v ≡ Excused n
-    → (c : Clause) × FirstFailing assumption from cs σ n c
+    → (c : Clause) × FirstFailing assumption_role from cs σ n c
 unfolding excused_or
 excused_from from [] σ v n f h = absurd (f h)
-excused_from from (c ∷ cs) σ v n f h = go (fails_as assumption σ c) refl h (excused_from (suc from) cs σ v n f)
+excused_from from (c ∷ cs) σ v n f h = go (fails_as assumption_role σ c) refl h (excused_from (suc from) cs σ v n f)
   where
-    go : (a : Bool) → fails_as assumption σ c ≡ a → cond a (Excused from) (excused_or (suc from) cs σ v) ≡ Excused n
-        → (excused_or (suc from) cs σ v ≡ Excused n → (d : Clause) × FirstFailing assumption (suc from) cs σ n d)
-        → (d : Clause) × FirstFailing assumption from (c ∷ cs) σ n d
-    go true e h f = (c, let q : from ≡ n = cc in rw (← q) (here assumption from c cs σ e))
-    go false e h f = let w = f h in (w.0, there assumption from c cs σ n w.0 e w.1)
+    go : (a : Bool) → fails_as assumption_role σ c ≡ a → cond a (Excused from) (excused_or (suc from) cs σ v) ≡ Excused n
+        → (excused_or (suc from) cs σ v ≡ Excused n → (d : Clause) × FirstFailing assumption_role (suc from) cs σ n d)
+        → (d : Clause) × FirstFailing assumption_role from (c ∷ cs) σ n d
+    go true e h f = (c, let q : from ≡ n = cc in rw (← q) (here assumption_role from c cs σ e))
+    go false e h f = let w = f h in (w.0, there assumption_role from c cs σ n w.0 e w.1)
 
 broken_not_excused : (from : ℕ) (cs : List Clause) (σ : Trace) (n : ℕ) → broken_or from cs σ Holds ≡ Excused n → ⊥
 unfolding broken_or
@@ -111,7 +111,7 @@ broken_not_excused from (c ∷ cs) σ n h = go (fails_as commitment σ c) h (bro
     go false h f = f h
 
 -- Excused carries the first failing assumption
-pub excused_first : (cs : List Clause) (σ : Trace) (n : ℕ) → finding_of cs σ ≡ Excused n → (c : Clause) × FirstFailing assumption 0 cs σ n c
+pub excused_first : (cs : List Clause) (σ : Trace) (n : ℕ) → finding_of cs σ ≡ Excused n → (c : Clause) × FirstFailing assumption_role 0 cs σ n c
 unfolding finding_of
 excused_first cs σ n h = excused_from 0 cs σ (broken_or 0 cs σ Holds) n (broken_not_excused 0 cs σ n) h
 
@@ -190,7 +190,7 @@ broken_from from (c ∷ cs) σ p h = go (fails_as commitment σ c) refl h (broke
 excused_through : (from : ℕ) (cs : List Clause) (σ : Trace) (v : Finding) (p : Place) → excused_or from cs σ v ≡ Broken p → v ≡ Broken p
 unfolding excused_or
 excused_through from [] σ v p h = h
-excused_through from (c ∷ cs) σ v p h = go (fails_as assumption σ c) h (excused_through (suc from) cs σ v p)
+excused_through from (c ∷ cs) σ v p h = go (fails_as assumption_role σ c) h (excused_through (suc from) cs σ v p)
   where
     go : (a : Bool) → cond a (Excused from) (excused_or (suc from) cs σ v) ≡ Broken p → (excused_or (suc from) cs σ v ≡ Broken p → v ≡ Broken p)
         → v ≡ Broken p

@@ -16,7 +16,7 @@ pub data ClauseType : Type 0 where
 
 -- advice is a habit that is liked but not enforced (request 5)
 pub data Role : Type 0 where
-  assumption commitment advice : Role
+  assumption_role commitment advice : Role
 
 pub record Clause : Type 0 where
   pub type : ClauseType

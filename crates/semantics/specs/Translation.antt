@@ -5,7 +5,7 @@ use Rattle.semantics.specs.Proposition.{signal, name, negated}
 use Rattle.semantics.specs.Formula.{Formula, point, stretch, whole, unit, chop, conjunction, disjunction, star, slen, scount, sdur, drawn, at, gap, negation, for_some}
 use Rattle.semantics.specs.Formula.{Symbol, low, high, either, low_stretch, high_stretch, either_stretch, steady, below, at_most, equal, at_least, above}
 use Rattle.semantics.specs.Placement.{Names, union, without}
-use Rattle.semantics.specs.Clause.{ClauseType, pref, init, anti, implies, follows, triggers, Role, assumption, commitment, Clause}
+use Rattle.semantics.specs.Clause.{ClauseType, pref, init, anti, implies, follows, triggers, Role, assumption_role, commitment, Clause}
 use Rattle.semantics.specs.Verdict.{has_role}
 
 -- every interval, those of more than one cycle, none (document 004's true, ext and false)
@@ -109,4 +109,4 @@ join_broken r f (c ∷ cs) = join_broken r (cond (has_role r c) (disjunction f (
 
 unfoldable pub translation : List Clause → Formula
 translation cs =
-    disjunction (join_broken assumption nothing cs) (negation (join_broken commitment nothing cs))
+    disjunction (join_broken assumption_role nothing cs) (negation (join_broken commitment nothing cs))

@@ -2,16 +2,16 @@
 use Rattle.std.specs.Prelude.{ℕ, suc, ◌+◌, ◌*◌, Bool, true, false, not, cond, ◌&&◌, ◌||◌, List, [], ◌∷◌, length}
 use Rattle.semantics.specs.Cycles.{some_below, first_below}
 use Rattle.semantics.specs.Proposition.{Trace}
-use Rattle.semantics.specs.Clause.{Role, assumption, commitment, advice, Clause, breaks, fails}
+use Rattle.semantics.specs.Clause.{Role, assumption_role, commitment, advice, Clause, breaks, fails}
 
 unfoldable pub same_role : Role → Role → Bool
-same_role assumption assumption = true
-same_role assumption commitment = false
-same_role assumption advice = false
-same_role commitment assumption = false
+same_role assumption_role assumption_role = true
+same_role assumption_role commitment = false
+same_role assumption_role advice = false
+same_role commitment assumption_role = false
 same_role commitment commitment = true
 same_role commitment advice = false
-same_role advice assumption = false
+same_role advice assumption_role = false
 same_role advice commitment = false
 same_role advice advice = true
 
@@ -20,7 +20,7 @@ has_role r c = same_role r c.role
 
 -- the clauses that are no advice
 unfoldable pub beside_advice : Role → Clause → List Clause → List Clause
-beside_advice assumption c cs = c ∷ cs
+beside_advice assumption_role c cs = c ∷ cs
 beside_advice commitment c cs = c ∷ cs
 beside_advice advice c cs = cs
 
@@ -38,7 +38,7 @@ some_fails r (c ∷ cs) σ = fails_as r σ c || some_fails r cs σ
 
 -- true if some assumption fails or every commitment holds
 unfoldable pub requirement : List Clause → Trace → Bool
-requirement cs σ = some_fails assumption cs σ || not (some_fails commitment cs σ)
+requirement cs σ = some_fails assumption_role cs σ || not (some_fails commitment cs σ)
 
 -- document 01's "place": a clause's number and its three cycles
 pub record Place : Type 0 where
@@ -70,7 +70,7 @@ first_place clause n broken =
 -- `from` is the number of the list's first clause.
 unfoldable pub excused_or : ℕ → List Clause → Trace → Finding → Finding
 excused_or from [] σ otherwise = otherwise
-excused_or from (c ∷ cs) σ otherwise = cond (fails_as assumption σ c) (Excused from) (excused_or (suc from) cs σ otherwise)
+excused_or from (c ∷ cs) σ otherwise = cond (fails_as assumption_role σ c) (Excused from) (excused_or (suc from) cs σ otherwise)
 
 unfoldable pub broken_or : ℕ → List Clause → Trace → Finding → Finding
 broken_or from [] σ otherwise = otherwise

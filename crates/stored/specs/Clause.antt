@@ -1,7 +1,7 @@
 -- Document 01, "The stored sheet" and "Clauses": a clause's fields, what they stand for, and rules 8 and 9 at one clause.
 use Rattle.std.specs.Prelude.{ℕ, ◌+◌, ◌*◌, ◌^◌, Bool, not, cond, ◌&&◌, ◌||◌, List, [], ◌∷◌, leb, ltb, eqb, get_or}
 use Rattle.semantics.specs.Proposition.{bit}
-use Rattle.semantics.specs.Clause.{Part, ClauseType, pref, init, anti, implies, follows, triggers, Role, assumption, commitment, advice, Clause}
+use Rattle.semantics.specs.Clause.{Part, ClauseType, pref, init, anti, implies, follows, triggers, Role, assumption_role, commitment, advice, Clause}
 use Rattle.semantics.specs.Reach.{within}
 use Rattle.stored.specs.declared.Node.{Node}
 use Rattle.stored.specs.declared.StoredClause.{StoredClause}
@@ -27,7 +27,7 @@ stored_at l k =
 
 -- the roles by their numbers: 0 is an assumption, 1 a commitment, 2 advice
 abbrev pub roles : List Role
-roles = assumption ∷ commitment ∷ advice ∷ []
+roles = assumption_role ∷ commitment ∷ advice ∷ []
 
 abbrev pub last_role : ℕ
 last_role = 2

@@ -10,7 +10,7 @@ use lib.Dec.{leb, ltb}
 use lib.ListN.{length, take, drop, length-append, length-replicate}
 use lib.Seq.{drop-drop, length-take-le, get_or-take, take_at, drop_at, take_all}
 use Rattle.semantics.specs.Proposition.{Trace}
-use Rattle.semantics.specs.Clause.{Part, Role, assumption, commitment, Clause, breaks_at, breaks, fails}
+use Rattle.semantics.specs.Clause.{Part, Role, assumption_role, commitment, Clause, breaks_at, breaks, fails}
 use Rattle.semantics.specs.Cycles.{some_below}
 use Rattle.semantics.specs.Verdict.{same_role, fails_as, has_role, some_fails, requirement, Finding, Broken, Excused, Holds, excused_or, broken_or, finding_of, advice_of, verdict, first_place}
 use Rattle.semantics.proofs.Tests.{and_right, and_intro}
@@ -287,7 +287,7 @@ unused_clause u u' r c =
 
 unused_line : (u u' : Part) (l : Line) → Alike (meant_line u l) (meant_line u' l)
 unfolding meant_line
-unused_line u u' (assume_l c) = unused_clause u u' assumption c
+unused_line u u' (assume_l c) = unused_clause u u' assumption_role c
 unused_line u u' (require_l c) = unused_clause u u' commitment c
 
 alike_fails : {c c' : Clause} → Alike c c' → (r : Role) (σ : Trace) → fails_as r σ c ≡ fails_as r σ c'
@@ -307,7 +307,7 @@ module _ (u u' : Part) (σ : Trace) where
   unfolding excused_or meant_lines
   unused_excused from [] v = refl
   unused_excused from (l ∷ more) v =
-      ap₂ (λ (x : Bool) (y : Finding). cond x (Excused from) y) (alike_fails (unused_line u u' l) assumption σ) (unused_excused (suc from) more v)
+      ap₂ (λ (x : Bool) (y : Finding). cond x (Excused from) y) (alike_fails (unused_line u u' l) assumption_role σ) (unused_excused (suc from) more v)
 
   unused_broken : (from : ℕ) (ls : List Line) (v : Finding) → broken_or from (meant_lines u ls) σ v ≡ broken_or from (meant_lines u' ls) σ v
   unfolding broken_or meant_lines
@@ -324,7 +324,7 @@ module _ (u u' : Part) (σ : Trace) where
   pub unused_requirement : (t : TypedSheet) → requirement (clauses_meant u t) σ ≡ requirement (clauses_meant u' t) σ
   unfolding requirement clauses_meant
   unused_requirement t =
-      ap₂ (λ (x y : Bool). x || not y) (unused_fails assumption t.lines) (unused_fails commitment t.lines)
+      ap₂ (λ (x y : Bool). x || not y) (unused_fails assumption_role t.lines) (unused_fails commitment t.lines)
 
   unused_finding : (t : TypedSheet) → finding_of (clauses_meant u t) σ ≡ finding_of (clauses_meant u' t) σ
   unfolding finding_of clauses_meant

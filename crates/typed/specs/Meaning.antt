@@ -3,7 +3,7 @@ use Rattle.std.specs.Prelude.{ℕ, List, [], ◌∷◌, map, get_or}
 use Rattle.semantics.specs.Proposition.{Proposition, never, always, signal, name, negated, both_of, either_of}
 use Rattle.semantics.specs.Formula.{Formula, point, stretch, whole, unit, chop, conjunction, disjunction, star, slen, scount, sdur, drawn, at, gap}
 use Rattle.semantics.specs.Placement.{Names}
-use Rattle.semantics.specs.Clause.{Part, ClauseType, pref, init, anti, implies, follows, triggers, Role, assumption, commitment, Clause}
+use Rattle.semantics.specs.Clause.{Part, ClauseType, pref, init, anti, implies, follows, triggers, Role, assumption_role, commitment, Clause}
 use Rattle.stored.specs.Tree.{symbol_of}
 use Rattle.grammar.specs.Tree.{OrP, one_p, or_p, AndP, unit_p, and_p, UnitP, trueP, falseP, signalP, nameP, not_p, bracket_p, OrF, one_f, or_f, AndF, chain_f, and_f, ChopF, unit_f, chop_f, UnitF, pointF, stretchF, wholeF, braceF, slen_f, scountF, sdurF, draw_f, at_f, gap_f, bracketF, starF, TypedPart, TypedClause, pref_c, anti_c, init_c, implies_c, follows_c, triggers_c, Line, assume_l, require_l, TypedSheet}
 use Rattle.grammar.specs.Spelled.{is_among}
@@ -83,7 +83,7 @@ meant_clause unused r c =
     record { type = meant_type c; role = r; first = get_or parts 0 unused; second = get_or parts 1 unused; third = get_or parts 2 unused }
 
 unfoldable pub meant_line : Part → Line → Clause
-meant_line unused (assume_l c) = meant_clause unused assumption c
+meant_line unused (assume_l c) = meant_clause unused assumption_role c
 meant_line unused (require_l c) = meant_clause unused commitment c
 
 unfoldable pub meant_lines : Part → List Line → List Clause
