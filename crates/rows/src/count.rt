@@ -9,7 +9,7 @@ ghost use Rattle.rows.specs.Symbols.{comparison_of, counted_to, After, Distant, 
 use crate::mask::{ALL, below, cycles_from, up_to};
 
 // <, ≤, =, ≥, >
-#[derive(Drop)]
+#[derive(Clone, Copy)]
 pub enum Comparison {
     Below,
     AtMost,

@@ -9,7 +9,7 @@ ghost use Rattle.rows.specs.Symbols.{symbol_of};
 use crate::mask::{ALL, before_first, below, cycles_from, has, only, up_to_first};
 
 // What a waveform is drawn with; document 01's numbers 2 and 3 are both `Either`.
-#[derive(Drop)]
+#[derive(Clone, Copy)]
 pub enum Symbol {
     Low,
     High,

@@ -291,7 +291,7 @@ module _ (s m n : ℕ) (x : ℕ → Node) (kept : NodesKept s m n x) (names : Na
         of_formula =
             λ sort.
             ap (within names) (formula_law requirement_sorts x i (kept.operands_kept i h))
-            ∙ formed names s m kept.three (x i) r small (proposition_at x) (formula_at x) (x i).op sort right.q-right right.a_right
+            ∙ formed names s m kept.three (x i) r small (proposition_at x) (formula_at x) (x i).op sort right.q_right right.a_right
             (λ e. (before (x i).a (at.a_proposition e).less).of_proposition (at.a_proposition e).sorted ∙ ap (λ (z : ℕ). covers z names) (sym (earlier_at i 0 (reach_at x) (x i).a (at.a_proposition e).less)))
             (λ e. (before (x i).a (at.a_formula e).less).of_formula (at.a_formula e).sorted ∙ ap (λ (z : ℕ). covers z names) (sym (earlier_at i 0 (reach_at x) (x i).a (at.a_formula e).less)))
             (λ e. (before (x i).b (at.b_formula e).less).of_formula (at.b_formula e).sorted ∙ ap (λ (z : ℕ). covers z names) (sym (earlier_at i 0 (reach_at x) (x i).b (at.b_formula e).less)))

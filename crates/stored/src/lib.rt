@@ -11,7 +11,7 @@ pub mod sheet;
 pub mod writer;
 
 // A node's four fields.
-#[derive(Drop)]
+#[derive(Clone, Copy)]
 pub struct Node {
     pub op: usize,
     pub q: usize,
@@ -20,7 +20,7 @@ pub struct Node {
 }
 
 // A clause's eight fields.
-#[derive(Drop)]
+#[derive(Clone, Copy)]
 pub struct StoredClause {
     pub clause_type: usize,
     pub role: usize,
@@ -33,7 +33,7 @@ pub struct StoredClause {
 }
 
 // The counts of a sheet.
-#[derive(Drop)]
+#[derive(Clone, Copy)]
 pub struct Header {
     pub signals: usize,
     pub names: usize,
