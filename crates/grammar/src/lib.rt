@@ -1,3 +1,2 @@
 // Typed sheets: their words, their grammar, and how a text is read. Definitions and laws alone.
 #![tactic(auto)]
-

@@ -11,7 +11,7 @@ use crate::choice::lesser;
 use rows::mask::{before_first, below, cycles_from, only, up_to};
 
 // The types of clauses.
-#[derive(Drop)]
+#[derive(Clone, Copy)]
 pub enum ClauseType {
     Pref,
     Init,

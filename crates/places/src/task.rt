@@ -8,7 +8,7 @@ use stored::StoredClause;
 
 // The nodes of the part that a clause starts from, of Ξ's part and of the part that answers, each with a mask of those of its names
 // that no part before it lists; and the names that are quantified universally.
-#[derive(Drop)]
+#[derive(Clone, Copy)]
 pub struct Task {
     pub clause_type: ClauseType,
     pub premise: usize,

@@ -19,7 +19,7 @@ use tables::fill::lay;
 use tables::words::clear;
 
 // Which names are placed and where: the last ones, as many as are left, are not yet.
-#[derive(Drop)]
+#[derive(Clone, Copy)]
 pub struct Spot {
     pub left: usize,
     pub cycles: [usize; 3],
@@ -27,7 +27,7 @@ pub struct Spot {
 
 // What never changes during a walk: the clause's task, how many nodes and cycles there are, whether the walk gathers answers or
 // looks for places, and the names that it moves.
-#[derive(Drop)]
+#[derive(Clone, Copy)]
 pub struct Job {
     pub task: Task,
     pub count: usize,

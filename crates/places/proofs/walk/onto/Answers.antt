@@ -1,0 +1,8 @@
+-- `places::walk::onto` meets its contract.
+use mathlib.Core.Path.{refl}
+use Rattle.places.specs.Laid.{with_next}
+use Rattle.places.proofs.walk.onto.Goals as goal
+
+pub returns : goal.returns
+unfolding with_next
+returns c = refl
