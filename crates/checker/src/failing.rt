@@ -24,7 +24,7 @@ pub enum Failing {
 }
 
 // How many nodes, clauses and cycles a check goes over.
-#[derive(Drop)]
+#[derive(Clone, Copy)]
 pub struct Sizes {
     pub nodes: usize,
     pub clauses: usize,

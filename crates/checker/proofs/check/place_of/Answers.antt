@@ -1,0 +1,8 @@
+-- `checker::check::place_of` meets its contract.
+use mathlib.Core.Path.{refl}
+use Rattle.checker.specs.Clauses.{place_of}
+use Rattle.checker.proofs.check.place_of.Goals as goal
+
+pub returns : goal.returns
+unfolding place_of
+returns c = refl

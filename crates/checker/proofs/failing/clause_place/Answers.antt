@@ -1,0 +1,19 @@
+-- `checker::failing::clause_place` meets its contract.
+use mathlib.Core.Path.{refl}
+use native.Mathlib.Omega.{arith}
+use Rattle.checker.proofs.Clauses.{clause_walkable, clause_least}
+use Rattle.checker.proofs.failing.clause_place.Goals as goal
+
+pub task_of-task-requires : goal.task_of-task-requires
+task_of-task-requires c = omega (arith, c.requires.sound.0.type_least, c.requires.sound.0.type_most)
+
+pub walk-requires : goal.walk-requires
+walk-requires c =
+    let p = c.requires in
+    record { walkable = clause_walkable p.laid c.args.d _ c.task_of-task.ensures p.sound.0; rows_len = p.sound.1 }
+
+pub returns : goal.returns
+returns c =
+    let p = c.requires in
+    let r = c.walk.ensures in
+    record { laid_2 = r.laid; rows_len = r.rows_len_2; least = clause_least p.laid c.args.d _ c.task_of-task.ensures p.sound.0 _ (r.walked.places refl) }

@@ -1,0 +1,60 @@
+-- `checker::failing::first_failing` meets its contract.
+use mathlib.Core.Path.{refl, ◌∙◌}
+use native.Mathlib.Omega.{arith}
+use Prim.Native.Nat.{◌-◌}
+use mathlib.Core.Bool.{false}
+use Rattle.semantics.specs.Verdict.{fails_as}
+use Rattle.stored.specs.Clause.{role_of}
+use Rattle.traces.specs.Columns.{trace_of}
+use Rattle.places.proofs.Walks.{laid_own, relaid}
+use Rattle.checker.specs.Clauses.{clause_at}
+use Rattle.checker.proofs.Verdicts.{one_more, place_at}
+use Rattle.checker.proofs.failing.first_failing.Goals as goal
+
+pub loop-k-init : goal.loop-k-init
+loop-k-init c = (c.requires.laid, refl, refl, c.requires.role_le_last_role.2, omega arith, λ j h. absurd (omega arith))
+
+pub stored_at-d-requires : goal.stored_at-d-requires
+stored_at-d-requires c = omega (arith, c.requires.role_le_last_role.1.long)
+
+pub role_place-place-requires : goal.role_place-place-requires
+role_place-place-requires c =
+    let q = c.requires in
+    let l = c.loop-k in
+    let sound = q.role_le_last_role.1.sound l.k c.loop-k-test.true in
+    record { laid = laid_own l.invariant.0; role_le_last_role = (q.role_le_last_role.0, rw c.stored_at-d.ensures sound, l.invariant.3) }
+
+pub returns-then-place-lt-PLACES : goal.returns-then-place-lt-PLACES
+returns-then-place-lt-PLACES c =
+    let l = c.loop-k in
+    let a = c.args in
+    let r = c.role_place-place in
+    let place = place_at a.nodes.now a.clauses.now l.k (role_of a.role) l.invariant.0 c.stored_at-d.ensures r.ensures.place_is in record { laid_2 = relaid l.invariant.0 r.ensures.laid_2; rows_len = r.ensures.rows_len; failing_is = record {
+          below = c.loop-k-test.true;
+          before = l.invariant.5;
+          fails = place.some c.if-place-lt-PLACES.true;
+          least = place.least c.if-place-lt-PLACES.true;
+          found = c.if-place-lt-PLACES.true;
+        } }
+
+pub overflow_add-k : goal.overflow_add-k
+overflow_add-k c = omega (arith, c.requires.role_le_last_role.1.few, c.loop-k-test.true)
+
+pub loop-k-preserved : goal.loop-k-preserved
+loop-k-preserved c =
+    let l = c.loop-k in
+    let a = c.args in
+    let r = c.role_place-place in
+    let place = place_at a.nodes.now a.clauses.now l.k (role_of a.role) l.invariant.0 c.stored_at-d.ensures r.ensures.place_is in (
+      relaid l.invariant.0 r.ensures.laid_2,
+      r.auto.columns ∙ l.invariant.1,
+      r.auto.words ∙ l.invariant.2,
+      r.ensures.rows_len,
+      omega (arith, c.loop-k-test.true),
+      one_more (λ j. fails_as (role_of a.role) (trace_of a.sizes.cycles a.columns.now) (clause_at a.nodes.now a.clauses.now j)) l.k l.invariant.5 (place.none (omega (arith, c.if-place-lt-PLACES.false))),
+    )
+
+pub returns : goal.returns
+returns c =
+    let l = c.loop-k in
+    record { laid_2 = l.invariant.0; rows_len = l.invariant.3; failing_is = λ k h. l.invariant.5 k (omega (arith, c.loop-k-test.false)) }

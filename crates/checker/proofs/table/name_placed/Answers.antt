@@ -1,0 +1,8 @@
+-- `checker::table::name_placed` meets its contract.
+use mathlib.Core.Path.{refl}
+use Rattle.checker.specs.Table.{name_placed}
+use Rattle.checker.proofs.table.name_placed.Goals as goal
+
+pub returns : goal.returns
+unfolding name_placed
+returns c = refl
