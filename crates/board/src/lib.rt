@@ -9,7 +9,7 @@ pub mod offer;
 pub mod open;
 
 // The verdict last given. A new board has none.
-#[derive(Drop)]
+#[derive(Clone, Copy)]
 pub enum Shown {
     Nothing,
     Given(Verdict),
@@ -17,7 +17,7 @@ pub enum Shown {
 
 // The sheet stands at the front of its bytes and ends where its length field says; the first `taken` cycles are those of the offer.
 // A board is plain data that any caller can make: a feed takes one that passes as it stands, and refuses any other.
-#[derive(Drop)]
+#[derive(Clone, Copy)]
 pub struct Board {
     pub sheet: [u8; MOST_SHEET],
     pub cycles: [u16; MOST_CYCLES],

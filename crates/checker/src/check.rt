@@ -21,7 +21,7 @@ use traces::TraceAnswer;
 use traces::trace::{columns, read_trace, trace_number};
 
 // A clause's number and its three cycles.
-#[derive(Drop)]
+#[derive(Clone, Copy)]
 pub struct Place {
     pub clause: usize,
     pub i: usize,
@@ -30,7 +30,7 @@ pub struct Place {
 }
 
 // What a verdict says of the requirement.
-#[derive(Drop)]
+#[derive(Clone, Copy)]
 pub enum Finding {
     Excused(usize),
     Broken(Place),
@@ -38,14 +38,14 @@ pub enum Finding {
 }
 
 // A finding, and beside it a byte with bit k set if clause k is advice and fails.
-#[derive(Drop)]
+#[derive(Clone, Copy)]
 pub struct Verdict {
     pub finding: Finding,
     pub advice: usize,
 }
 
 // The verdict, or the number of the refusal.
-#[derive(Drop)]
+#[derive(Clone, Copy)]
 pub enum Answer {
     Refused(usize),
     Checked(Verdict),

@@ -3,39 +3,32 @@ use mathlib.Core.Path.{sym, ◌∙◌}
 use native.Mathlib.Omega.{arith}
 use Rattle.plans.specs.Plan.{node}
 use Rattle.plans.proofs.Steps.{Fits, fits_open, put_none, put_made}
-use Rattle.plans.proofs.node.put.Lts as lts
-use Rattle.plans.proofs.node.put.Tie as tie
-use Rattle.plans.proofs.node.put.Reads as reads
 use Rattle.plans.proofs.node.put.Goals as goal
-
--- past the test the node fits
-known : (c : lts.Else1 tie.the-claims reads.Pre reads.Post) → let a = c.before.before.before.before.args in Fits a.out.now (node a.op a.q a.a a.b)
-known c = fits_open _ _ (sym c.before.fits.ensures ∙ c.if-not-fits.false)
 
 pub returns-then-not-fits : goal.returns-then-not-fits
 returns-then-not-fits c = put_none (sym c.fits.ensures ∙ c.if-not-fits.true)
 
 pub byte-s-requires : goal.byte-s-requires
-byte-s-requires c = omega (arith, (known c.before.before).long)
+byte-s-requires c = omega (arith, (fits_open _ _ (sym c.fits.ensures ∙ c.if-not-fits.false)).long)
 
 pub byte-m-requires : goal.byte-m-requires
-byte-m-requires c = omega (arith, (known c.before.before.before.before).long)
+byte-m-requires c = omega (arith, (fits_open _ _ (sym c.fits.ensures ∙ c.if-not-fits.false)).long)
 
 pub count-n-requires : goal.count-n-requires
-count-n-requires c = omega (arith, (known c.before.before.before.before.before.before).long)
+count-n-requires c = omega (arith, (fits_open _ _ (sym c.fits.ensures ∙ c.if-not-fits.false)).long)
 
 pub put_node-requires : goal.put_node-requires
 put_node-requires c =
-    let f = known c.before.before.before.before.before.before.before.before in
+    let f = fits_open _ _ (sym c.fits.ensures ∙ c.if-not-fits.false) in
     (c.count-n.ensures.1, omega (arith, f.long, f.room, c.count-n.ensures.0), f.fields)
 
 pub put_header-requires : goal.put_header-requires
 put_header-requires c =
-    let f = known c.before.before.before.before.before.before.before.before.before.before.before.before in
+    let f = fits_open _ _ (sym c.fits.ensures ∙ c.if-not-fits.false) in
     (omega (arith, f.long), omega arith, c.byte-s.ensures.1, c.byte-m.ensures.1, omega arith, omega (arith, f.room, c.count-n.ensures.0))
 
 pub returns : goal.returns
 returns c =
-    put_made (sym c.fits2.ensures ∙ c.if-not-fits.false)
+    put_made (sym c.fits.ensures ∙ c.if-not-fits.false)
     c.byte-s.ensures.0 c.byte-m.ensures.0 c.count-n.ensures.0
     c.put_node.ensures c.put_header.ensures

@@ -1,0 +1,13 @@
+-- `clauses::clause::put_follows` meets its contract.
+use Rattle.semantics.specs.Translation.{anywhere, broken_of}
+use Rattle.plans.specs.Plan.{everywhere, chopped}
+use Rattle.clauses.proofs.Names.{placed_over}
+use Rattle.clauses.proofs.clause.put_follows.Goals as goal
+
+pub returns : goal.returns
+unfolding broken_of anywhere
+returns c =
+    let later = chopped c.put_unanswered-unanswered.ensures everywhere c.put_chop-rest.ensures in
+    let both = chopped c.put_once-first.ensures later c.put_chop-joined.ensures in
+    let placed = rw c.both-names.ensures at c.put_placed-placed.ensures in
+    chopped everywhere (placed_over _ both placed) c.put_chop.ensures

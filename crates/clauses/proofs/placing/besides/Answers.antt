@@ -1,0 +1,7 @@
+-- `clauses::placing::besides` meets its contract.
+use native.Mathlib.Omega.{arith}
+use Rattle.stored.proofs.NameSets.{less_mask}
+use Rattle.clauses.proofs.placing.besides.Goals as goal
+
+pub returns : goal.returns
+returns c = less_mask _ _ (omega arith) (omega arith)

@@ -1,0 +1,25 @@
+-- `emission::drawing::put_gap` meets its contract.
+use native.Mathlib.Omega.{arith}
+use Rattle.semantics.specs.Translation.{anywhere, undrawn_gap}
+use Rattle.plans.specs.Plan.{named, everywhere, no_more, pointed, chopped, conjoined}
+use Rattle.emission.proofs.drawing.put_gap.Goals as goal
+
+pub overflow_mul-u : goal.overflow_mul-u
+overflow_mul-u c = omega arith
+
+pub overflow_add-u : goal.overflow_add-u
+overflow_add-u c = omega arith
+
+pub overflow_mul-v : goal.overflow_mul-v
+overflow_mul-v c = omega arith
+
+pub overflow_add-v : goal.overflow_add-v
+overflow_add-v c = omega arith
+
+pub returns : goal.returns
+unfolding undrawn_gap anywhere
+returns c =
+    let start = pointed named c.put_point-start.ensures in
+    let range = conjoined c.put_least-not_less.ensures (no_more c.put_length-not_more.ensures) c.put_and-range.ensures in
+    let end = pointed named c.put_point-end.ensures in
+    chopped everywhere (chopped (conjoined start range c.put_and-gap.ensures) end c.put_chop-inner.ensures) c.put_chop.ensures

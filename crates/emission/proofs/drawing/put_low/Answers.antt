@@ -1,0 +1,7 @@
+-- `emission::drawing::put_low` meets its contract.
+use Rattle.plans.specs.Plan.{signalled, negated_of}
+use Rattle.emission.proofs.drawing.put_low.Goals as goal
+
+pub returns : goal.returns
+returns c =
+    negated_of (signalled c.put_signal-high.ensures) c.put_negated.ensures
