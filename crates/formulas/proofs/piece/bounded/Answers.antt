@@ -1,0 +1,14 @@
+-- `formulas::piece::bounded` meets its contract.
+use native.Mathlib.Omega.{arith}
+use Rattle.formulas.proofs.Pieces.{bounded_puttable, bounded_reads}
+use Rattle.formulas.proofs.piece.bounded.Goals as goal
+
+pub over-requires : goal.over-requires
+over-requires c =
+    bounded_puttable c.requires.ready (omega arith) c.requires.close_bound.1 c.proposition-inner.ensures c.sign-end.ensures
+
+pub returns : goal.returns
+returns c =
+    let pre = c.requires in
+    bounded_reads pre.ready pre.close_bound.0 pre.fact.0 pre.fact.1 c.proposition-inner.ensures c.sign-end.ensures
+    c.over.ensures

@@ -1,0 +1,47 @@
+-- `text::read::read_text` meets its contract.
+use borrow.Author.Tests.{not-true, not-false}
+use native.Mathlib.Omega.{arith}
+use Rattle.text.proofs.Text.{read_deep, unended_outside, unread_outside, nothing_refused, read_by_number, read_whole}
+use mathlib.Core.Path.{sym, ◌∙◌}
+use Rattle.text.proofs.read.read_text.Goals as goal
+
+pub returns-then-too_deep : goal.returns-then-too_deep
+returns-then-too_deep c = read_deep _ _ _ c.too_deep.ensures c.if-too_deep.true
+
+pub returns-then-not-ends_line : goal.returns-then-not-ends_line
+returns-then-not-ends_line c =
+    unended_outside _ _ _ c.too_deep.ensures c.if-too_deep.false _ c.ends_line.ensures (c.if-not-ends_line.true)
+
+pub returns-then-not-said : goal.returns-then-not-said
+returns-then-not-said c =
+    let said = c.sheet-said in
+    let empty_nodes = c.no_nodes-nodes.ensures in
+    let empty_clauses = c.no_clauses-clauses.ensures in
+    unread_outside _ _ _ c.too_deep.ensures c.if-too_deep.false _ _ _ _ said.result empty_nodes empty_clauses
+    said.ensures (not-true _ c.if-not-said.true)
+
+pub returns-then-number-ne0 : goal.returns-then-number-ne0
+returns-then-number-ne0 c =
+    let said = c.sheet-said in
+    let empty_nodes = c.no_nodes-nodes.ensures in
+    let empty_clauses = c.no_clauses-clauses.ensures in
+    read_by_number _ _ _ c.too_deep.ensures c.if-too_deep.false _ _ _ _ said.result empty_nodes empty_clauses said.ensures _
+    c.ends_line.ensures (c.if-not-ends_line.false) (not-false _ c.if-not-said.false) _ c.refusal-number.ensures c.if-number-ne0.true
+
+pub assemble-requires : goal.assemble-requires
+assemble-requires c =
+    let free = nothing_refused _ _ _ _ _ _ _ (sym c.refusal-number.ensures ∙ c.if-number-ne0.false) in
+    let few = free.few_nodes in
+    let fewer = free.few_clauses in
+    let room = free.room in
+    (omega arith, omega arith, few, omega arith, fewer)
+
+pub returns : goal.returns
+returns c =
+    let said = c.sheet-said in
+    let empty_nodes = c.no_nodes-nodes.ensures in
+    let empty_clauses = c.no_clauses-clauses.ensures in
+    read_whole _ _ _ c.too_deep.ensures c.if-too_deep.false _ _ _ _ said.result empty_nodes empty_clauses said.ensures _
+    c.ends_line.ensures (c.if-not-ends_line.false) (not-false _ c.if-not-said.false) _
+    c.refusal-number.ensures
+    c.if-number-ne0.false _ _ c.assemble.ensures
