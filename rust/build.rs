@@ -1,4 +1,4 @@
-//! Links `libexports.a`, the proved library, from `../target/staticlib` or from the directory in
+//! Links `libexports.a`, the proved library, from `../crates/exports/out` or from the directory in
 //! FASUNQIR_LIB_DIR. Without the archive the library compiles, and nothing can be linked. Where
 //! FASUNQIR_OTHER_DIR names the directory of another version's archive, that is linked as well, for
 //! the benchmark `versions`.
@@ -39,13 +39,13 @@ fn main() {
     let directory = match env::var_os("FASUNQIR_LIB_DIR") {
         Some(directory) => PathBuf::from(directory),
         None => {
-            PathBuf::from(env::var_os("CARGO_MANIFEST_DIR").unwrap()).join("../target/staticlib")
+            PathBuf::from(env::var_os("CARGO_MANIFEST_DIR").unwrap()).join("../crates/exports/out")
         }
     };
     let archive = directory.join("libexports.a");
     println!("cargo:rerun-if-changed={}", archive.display());
     if !archive.exists() {
-        println!("cargo:warning=no {}: `rt staticlib exports` makes it", archive.display());
+        println!("cargo:warning=no {}: `rt lib` in crates/exports makes it", archive.display());
         return;
     }
     let aligned = align(&archive, &own.join("libexports.a"), "");

@@ -41,13 +41,19 @@ const PROVER: &str = r#"#!/bin/sh
 [ "$1" != version ] || exec cat "$SAID/version"
 cat >/dev/null
 echo "rt $*" >>"$SAID/calls"
-echo "rt: low proved (1 s)"
+[ "${PWD##*/crates/}" = exports ] || exit 3
+echo "rt: chose --jobs 2 for low"
+echo "crate low: modules loaded=12 checked=3"
+echo "logic=proved functions=1 sum=0"
 while [ -e "$SAID/slow" ]; do sleep 1; done
-[ ! -e "$SAID/edited" ] || cat "$SAID/edited" >"$(cat "$SAID/edits")"
-if [ -e "$SAID/unproved" ]; then echo "rt: high NOT PROVED"; exit 1; fi
-echo "rt: high proved (unchanged since it was last proved)"
-mkdir -p target/staticlib
-cat crates/low/src >target/staticlib/libexports.a
+[ ! -e "$SAID/edited" ] || cat "$SAID/edited" >"../../$(cat "$SAID/edits")"
+if [ -e "$SAID/unproved" ]; then echo "rt: the library high did not build"; exit 1; fi
+echo "crate high: modules loaded=15 checked=0"
+echo "logic=proved functions=2 sum=0"
+echo "crate exports: modules loaded=18 checked=0"
+echo "logic=proved functions=3 sum=0"
+mkdir -p out ../low/out
+cat ../low/src | tee ../low/out/kept >out/libexports.a
 "#;
 
 /// Builds a command that tells what it was made from and how it was run, and ends with status 1.
@@ -75,11 +81,19 @@ struct Place {
 impl Place {
     fn new(name: &str) -> Place {
         let place = Place { scratch: Scratch::new(&format!("launcher-{name}")) };
-        for folder in ["office/crates/low", "office/rust/src", "tools", "said", "home", "cache"] {
+        for folder in [
+            "office/crates/low",
+            "office/crates/exports",
+            "office/rust/src",
+            "tools",
+            "said",
+            "home",
+            "cache",
+        ] {
             fs::create_dir_all(place.path(folder)).unwrap();
         }
         fs::copy(root().join("fasunqir"), place.path("office/fasunqir")).unwrap();
-        place.write("office/crates.txt", "low:\nhigh: low\nexports: low high\n");
+        place.write("office/crates.txt", "low:\nhigh: low\nexports staticlib: low high\n");
         place.write("office/crates/low/src", "proved-1");
         place.write("office/rust/src/lib.rs", "rust-1");
         for file in ["Cargo.toml", "Cargo.lock", "build.rs"] {
@@ -151,7 +165,7 @@ impl Place {
     /// Waits until the prover is at work.
     fn await_prover(&self) {
         await_that("the prover is called", || {
-            fs::read_to_string(self.path("said/calls")).unwrap().contains("rt staticlib exports")
+            fs::read_to_string(self.path("said/calls")).unwrap().contains("rt lib")
         });
     }
 
@@ -198,7 +212,7 @@ fn first(ran: &Ran) -> &str {
     ran.out.lines().next().unwrap_or("")
 }
 
-const BOTH: [&str; 2] = ["rt staticlib exports", "cargo build"];
+const BOTH: [&str; 2] = ["rt lib", "cargo build"];
 const BUILDING: &str =
     "fasunqir: the library is proved and built; this takes some minutes\nfasunqir: the command is built\n";
 
@@ -293,7 +307,12 @@ fn what_fails_is_shown_and_nothing_older_is_run() {
     place.run();
     place.calls();
     for (file, what, log, said) in [
-        ("said/unproved", "the library isn't proved", "library.log", "rt: high NOT PROVED"),
+        (
+            "said/unproved",
+            "the library isn't proved",
+            "library.log",
+            "rt: the library high did not build",
+        ),
         ("said/unbuilt", "the command isn't built", "command.log", "error: no command"),
     ] {
         place.write("office/crates/low/src", "proved-2");

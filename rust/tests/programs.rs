@@ -1,4 +1,5 @@
-//! The programs beside the reference. FASUNQIR_PROGRAMS is the directory that they are in.
+//! The programs beside the reference. FASUNQIR_PROGRAMS is the directory of the crates, where each has
+//! its own program in out/.
 
 mod build;
 mod cases;
@@ -21,7 +22,7 @@ use std::time::Duration;
 /// A program that was started, its input and output in our hands.
 fn started(name: &str) -> Child {
     let programs = std::env::var_os("FASUNQIR_PROGRAMS").expect("FASUNQIR_PROGRAMS isn't set");
-    let path = PathBuf::from(programs).join(name);
+    let path = PathBuf::from(programs).join(name).join("out").join(name);
     Command::new(&path)
         .stdin(Stdio::piped())
         .stdout(Stdio::piped())

@@ -1,9 +1,9 @@
 // Prints the source file of the table of classes, `crates/lexer/src/table.rt`.
 #![tactic(auto)]
 
-use libc::STDOUT_FILENO;
+use std::io;
 
-fn main() {
+fn main(rt: HostRuntime) -> io::Result<()> {
     let bytes = classfile::file();
-    io::write_all(STDOUT_FILENO, &bytes);
+    rt.write_all(&bytes)
 }

@@ -2,84 +2,73 @@
 // which ends where its length field says, and then two bytes a minute. A refused sheet gets its line, and the program ends.
 #![tactic(auto)]
 
-ghost use Rattle.std.specs.Prelude.{◌≤◌, length};
+ghost use Rattle.std.specs.Prelude.{◌≤◌, length, take, IfOk, OnOk};
+ghost use Rattle.std.specs.Io.KnownBytes.{Appends};
 ghost use Rattle.printed.specs.Wall.{most_held};
 
 use board::Board;
-use libc::{STDIN_FILENO, STDOUT_FILENO};
 use lines::input::word_at;
 use printed::line::Line;
 use printed::wall::{HELD_SHEET, minute_line, open_line};
-
-// The board after a minute, and whether more may come.
-#[derive(Drop)]
-struct Turn {
-    board: Board,
-    goes_on: bool,
-}
+use std::io;
+use std::io::{Read, Write};
+use streams::read_full;
 
 // Reads a sheet: the two bytes of its length field, and as many more as they say. Gives how many bytes came.
-fn read_sheet(input: &mut [u8]) -> usize
+fn read_sheet<R: Read>(reader: &mut R, input: &mut [u8]) -> io::Result<usize>
     requires { most_held ≤ length input.old }
-    ensures { result ≤ length input.new }
+    ensures { IfOk result (λ n. n ≤ length input.new) }
 {
-    let head = io::read_full(STDIN_FILENO, &mut input[..2]);
+    let head = read_full(reader, &mut input[..2])?;
     let end = word_at(input, 0) + 2;
-    let rest = io::read_full(STDIN_FILENO, &mut input[2..end]);
-    head + rest
+    let rest = read_full(reader, &mut input[2..end])?;
+    Ok(head + rest)
 }
 
-fn write_line(line: Line) -> bool
+fn write_line<W: Write>(writer: &mut W, line: Line) -> io::Result<()>
     requires { line.length ≤ length line.bytes }
+    ensures { OnOk result (Appends (W.contents writer.old) (W.contents writer.new) (take line.length line.bytes)) }
 {
-    let bytes = line.bytes;
-    let length = line.length;
-    io::write_all(STDOUT_FILENO, &bytes[..length])
+    writer.write_all(&line.bytes[..line.length])?;
+    writer.flush()
 }
 
-// Reads a minute and writes its line at once. A byte that is left over is no minute.
-fn show_minute(board: Board) -> Turn {
+// Reads a minute and writes its line at once. Gives the board after it, or none where the input ends; a byte that is left over is no minute.
+fn show_minute<R: Read, W: Write>(
+    reader: &mut R,
+    writer: &mut W,
+    board: Board,
+) -> io::Result<Option<Board>> {
     let mut minute = [0u8; 2];
-    let got = io::read_full(STDIN_FILENO, &mut minute);
+    let got = read_full(reader, &mut minute)?;
     if got < 2 {
-        return Turn {
-            board,
-            goes_on: false,
-        };
+        return Ok(None);
     }
     let shown = minute_line(board, &minute);
-    let line = shown.line;
-    let goes_on = write_line(line);
-    let next = shown.board;
-    Turn {
-        board: next,
-        goes_on,
-    }
+    write_line(writer, shown.line)?;
+    Ok(Some(shown.board))
 }
 
-// A proved loop has to end, and nothing says that an input does. So the loop counts its turns down, from a number that no run uses up.
-fn watch(board: Board) {
-    let mut now = Turn {
-        board,
-        goes_on: true,
-    };
-    let mut turns = u64::MAX;
-    while turns > 0 && now.goes_on {
-        let last = now.board;
-        now = show_minute(last);
-        turns -= 1;
+// A proved loop has to end, and nothing says that an input does. So the loop counts its turns, up to a number that no run comes to.
+fn watch<R: Read, W: Write>(reader: &mut R, writer: &mut W, board: Board) -> io::Result<()> {
+    let mut now = board;
+    for _ in 0..u64::MAX {
+        match show_minute(reader, writer, now)? {
+            Some(next) => now = next,
+            None => return Ok(()),
+        }
     }
+    Ok(())
 }
 
-fn main() {
+fn main(rt: HostRuntime) -> io::Result<()> {
+    let mut reader = rt.stdin();
+    let mut writer = rt.stdout();
     let mut input = [0u8; HELD_SHEET];
-    let got = read_sheet(&mut input);
+    let got = read_sheet(&mut reader, &mut input)?;
     let opened = open_line(&input[..got]);
     if opened.refused != 0 {
-        let line = opened.line;
-        write_line(line);
-        return;
+        return write_line(&mut writer, opened.line);
     }
-    let board = opened.board;
-    watch(board);
+    watch(&mut reader, &mut writer, opened.board)
 }

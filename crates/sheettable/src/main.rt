@@ -1,13 +1,13 @@
 // Prints the interval table of a node. Standard input is the node in two bytes, a byte for each of three cycles, then a sheet and a trace.
 #![tactic(auto)]
 
-use libc::{STDIN_FILENO, STDOUT_FILENO};
+use printed::page::table_page;
+use std::io;
+use streams::read_full;
 
-fn main() {
+fn main(rt: HostRuntime) -> io::Result<()> {
     let mut input = [0u8; 1029];
-    let got = io::read_full(STDIN_FILENO, &mut input);
-    let page = printed::page::table_page(&input[..got]);
-    let bytes = page.bytes;
-    let length = page.length;
-    io::write_all(STDOUT_FILENO, &bytes[..length]);
+    let got = read_full(&mut rt.stdin(), &mut input)?;
+    let page = table_page(&input[..got]);
+    rt.write_all(&page.bytes[..page.length])
 }

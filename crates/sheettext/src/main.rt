@@ -2,14 +2,13 @@
 // is "REFUSED 0".
 #![tactic(auto)]
 
-use libc::{STDIN_FILENO, STDOUT_FILENO};
-use printed::sheet::HELD;
+use printed::sheet::{HELD, sheet_output};
+use std::io;
+use streams::read_full;
 
-fn main() {
+fn main(rt: HostRuntime) -> io::Result<()> {
     let mut input = [0u8; HELD];
-    let got = io::read_full(STDIN_FILENO, &mut input);
-    let output = printed::sheet::sheet_output(&input[..got]);
-    let bytes = output.bytes;
-    let length = output.length;
-    io::write_all(STDOUT_FILENO, &bytes[..length]);
+    let got = read_full(&mut rt.stdin(), &mut input)?;
+    let output = sheet_output(&input[..got]);
+    rt.write_all(&output.bytes[..output.length])
 }
