@@ -43,8 +43,8 @@ fn clause_place(
 ) -> usize
     requires laid { Laid nodes.now sizes.nodes sizes.cycles reach.now (trace_of sizes.cycles columns.old) columns.old words.old }
     requires sound { Sound nodes.now sizes.nodes d × (length rows.old ≡ 64) }
-    ensures laid_2 { Laid nodes.now sizes.nodes sizes.cycles reach.now (trace_of sizes.cycles columns.old) columns.new words.new }
-    ensures rows_len { length rows.new ≡ 64 }
+    ensures still_laid { Laid nodes.now sizes.nodes sizes.cycles reach.now (trace_of sizes.cycles columns.old) columns.new words.new }
+    ensures rows_long { length rows.new ≡ 64 }
     ensures least { IsLeast places (numbered (length (trace_of sizes.cycles columns.old)) (breaks (clause_of (node_at nodes.now) d) (trace_of sizes.cycles columns.old))) result }
 {
     let task = task_of(d);
@@ -74,9 +74,9 @@ fn role_place(
     rows: &mut [u64],
 ) -> usize
     requires laid { Laid nodes.now sizes.nodes sizes.cycles reach.now (trace_of sizes.cycles columns.old) columns.old words.old }
-    requires role_le_last_role { (role ≤ last_role) × Sound nodes.now sizes.nodes d × (length rows.old ≡ 64) }
-    ensures laid_2 { Laid nodes.now sizes.nodes sizes.cycles reach.now (trace_of sizes.cycles columns.old) columns.new words.new }
-    ensures rows_len { length rows.new ≡ 64 }
+    requires known_role { (role ≤ last_role) × Sound nodes.now sizes.nodes d × (length rows.old ≡ 64) }
+    ensures still_laid { Laid nodes.now sizes.nodes sizes.cycles reach.now (trace_of sizes.cycles columns.old) columns.new words.new }
+    ensures rows_long { length rows.new ≡ 64 }
     ensures place_is { PlaceIs (role_of role) (clause_of (node_at nodes.now) d) (trace_of sizes.cycles columns.old) result }
 {
     if d.role != role {
@@ -97,9 +97,9 @@ pub fn first_failing(
     rows: &mut [u64],
 ) -> Failing
     requires laid { Laid nodes.now sizes.nodes sizes.cycles reach.now (trace_of sizes.cycles columns.old) columns.old words.old }
-    requires role_le_last_role { (role ≤ last_role) × Sounds nodes.now sizes.nodes clauses.now sizes.clauses × (length rows.old ≡ 64) }
-    ensures laid_2 { Laid nodes.now sizes.nodes sizes.cycles reach.now (trace_of sizes.cycles columns.old) columns.new words.new }
-    ensures rows_len { length rows.new ≡ 64 }
+    requires known_role { (role ≤ last_role) × Sounds nodes.now sizes.nodes clauses.now sizes.clauses × (length rows.old ≡ 64) }
+    ensures still_laid { Laid nodes.now sizes.nodes sizes.cycles reach.now (trace_of sizes.cycles columns.old) columns.new words.new }
+    ensures rows_long { length rows.new ≡ 64 }
     ensures failing_is { FailingIs (role_of role) (clause_at nodes.now clauses.now) sizes.clauses (trace_of sizes.cycles columns.old) result }
 {
     let many = sizes.clauses;
@@ -127,8 +127,8 @@ pub fn failing_advice(
 ) -> usize
     requires laid { Laid nodes.now sizes.nodes sizes.cycles reach.now (trace_of sizes.cycles columns.old) columns.old words.old }
     requires sounds { Sounds nodes.now sizes.nodes clauses.now sizes.clauses × (length rows.old ≡ 64) }
-    ensures laid_2 { Laid nodes.now sizes.nodes sizes.cycles reach.now (trace_of sizes.cycles columns.old) columns.new words.new }
-    ensures rows_len { length rows.new ≡ 64 }
+    ensures still_laid { Laid nodes.now sizes.nodes sizes.cycles reach.now (trace_of sizes.cycles columns.old) columns.new words.new }
+    ensures rows_long { length rows.new ≡ 64 }
     ensures value { result ≡ advice_of (in_order sizes.clauses (clause_at nodes.now clauses.now)) (trace_of sizes.cycles columns.old) }
 {
     let many = sizes.clauses;

@@ -92,7 +92,7 @@ fn rows_of(
     words: &mut [u64],
 ) -> [u64; 64]
     requires given { Given nodes.now count n columns.old words.old × Inside n cycles }
-    requires node_lt_count { (node < count) × (sort_of requirement_sorts (node_at nodes.now node).op ≡ formula) }
+    requires known_node { (node < count) × (sort_of requirement_sorts (node_at nodes.now node).op ≡ formula) }
     ensures value { result ≡ table_of (node_at nodes.now) (trace_of n columns.old) node (standing cycles) }
     ensures words_after { words.new ≡ replicate (length words.old) 0 }
 {

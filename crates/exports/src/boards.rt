@@ -56,8 +56,8 @@ pub extern "C" fn fasunqir_feed(
 ) -> u64
     ensures value { result ≡ packed (feed_answer (board_in bytes.now cycles.old taken.old verdict.old) cycle words.old) }
     ensures result_value { unpacked result ≡ feed_answer (board_in bytes.now cycles.old taken.old verdict.old) cycle words.old }
-    ensures verdict_after { board_in bytes.now cycles.new taken.new verdict.new ≡ next_board (board_in bytes.now cycles.old taken.old verdict.old) cycle words.old }
-    ensures verdict_after_2 { verdict.new ≡ cell_after (feed_refusal (board_in bytes.now cycles.old taken.old verdict.old) cycle words.old) result verdict.old }
+    ensures board_after { board_in bytes.now cycles.new taken.new verdict.new ≡ next_board (board_in bytes.now cycles.old taken.old verdict.old) cycle words.old }
+    ensures verdict_after { verdict.new ≡ cell_after (feed_refusal (board_in bytes.now cycles.old taken.old verdict.old) cycle words.old) result verdict.old }
     ensures words_after { words.new ≡ words_after (feed_refusal (board_in bytes.now cycles.old taken.old verdict.old) cycle words.old) words.old }
 {
     let board = Board {

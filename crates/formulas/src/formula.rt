@@ -70,7 +70,7 @@ fn term(text: &[u8], at: usize, depth: usize, nodes: &mut [u8], count: usize) ->
 #[cycle(bracket_formula_joined_term)]
 fn joined(text: &[u8], at: usize, depth: usize, level: usize, nodes: &mut [u8], count: usize) -> Got
     requires ready { Ready text.now at nodes.old count }
-    requires level_bound { level ≤ 3 }
+    requires known_level { level ≤ 3 }
     ensures { ReadsLevel level depth text.now at nodes.old count nodes.new result }
 {
     if level == 0 {

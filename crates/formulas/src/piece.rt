@@ -22,8 +22,8 @@ fn bounded(
     op: usize,
 ) -> Got
     requires ready { Ready text.now at nodes.old count }
-    requires close_bound { (close < 30) × (op < 256) }
-    requires fact { (close ≡ 22 → ⊥) × (close ≡ 23 → ⊥) }
+    requires known_sign { (close < 30) × (op < 256) }
+    requires other_word { (close ≡ 22 → ⊥) × (close ≡ 23 → ⊥) }
     ensures { Reads (about_bounded close) next (put_bounded op) depth text.now at nodes.old count nodes.new result }
 {
     let inner = proposition::proposition(text, at, depth, nodes, count);
@@ -60,7 +60,7 @@ fn slen(text: &[u8], at: usize, depth: usize, nodes: &mut [u8], count: usize) ->
 // scount (a) and sdur (a) compared with a number, by the op.
 fn counted(text: &[u8], at: usize, depth: usize, nodes: &mut [u8], count: usize, op: usize) -> Got
     requires ready { Ready text.now at nodes.old count }
-    requires op_bound { op < 256 }
+    requires known_op { op < 256 }
     ensures { Reads about_counted next (put_counted op) depth text.now at nodes.old count nodes.new result }
 {
     let inner = proposition::bracket(text, at, depth, nodes, count);
@@ -165,7 +165,7 @@ pub fn piece(
     word: usize,
 ) -> Got
     requires ready { Ready text.now at nodes.old count }
-    requires fact { word ≡ 22 → ⊥ }
+    requires other_word { word ≡ 22 → ⊥ }
     ensures { ReadsPiece (about_piece word) depth text.now at nodes.old count nodes.new result }
 {
     match word {

@@ -55,7 +55,7 @@ pub fn add(
     out: &mut [u64],
 ) -> u64
     requires { (64 * root + 64 ≤ length words.now) × (n ≤ 64) × (length out.old ≡ 64) }
-    ensures out_len { length out.new ≡ 64 }
+    ensures rows_long { length out.new ≡ 64 }
     ensures adds { Adds n out.old out.new (gathered words.now root names short (standing cycles)) }
     ensures ends { Ends n (gathered words.now root names short (standing cycles)) result }
 {

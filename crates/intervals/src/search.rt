@@ -102,8 +102,8 @@ pub fn search(
     n: usize,
     best: usize,
 ) -> usize
-    requires n_bound { (n ≤ 64) × (best ≤ 262144) }
-    requires in_bounds { (64 ≤ length first.now) × (64 ≤ length third.now) × (64 ≤ length answers.now) }
+    requires small { (n ≤ 64) × (best ≤ 262144) }
+    requires long_enough { (64 ≤ length first.now) × (64 ≤ length third.now) × (64 ≤ length answers.now) }
     ensures { IsLeast best (numbered n (missed (type_of clause_type) (test_of first.now) (test_of third.now) (test_of answers.now))) result }
 {
     let rows = lesser(n, (best + 4095) / 4096);

@@ -94,9 +94,9 @@ fn answer(
     rows: &mut [u64],
 )
     requires walkable { Walkable spot job best nodes.now reach.now columns.old words.old }
-    requires rows_len { length rows.old ≡ 64 }
+    requires rows_long { length rows.old ≡ 64 }
     ensures laid { Laid nodes.now job.count job.n reach.now (trace_of job.n columns.old) columns.new words.new }
-    ensures rows_len_2 { length rows.new ≡ 64 }
+    ensures rows_kept { length rows.new ≡ 64 }
     ensures adds { Adds job.n rows.old rows.new (λ b e. reply_on nodes.now (trace_of job.n columns.old) job.task b e (standing spot.cycles)) }
 {
     let task = job.task;
@@ -120,9 +120,9 @@ fn find(
     rows: &mut [u64],
 ) -> usize
     requires walkable { Walkable spot job best nodes.now reach.now columns.old words.old }
-    requires rows_len { length rows.old ≡ 64 }
+    requires rows_long { length rows.old ≡ 64 }
     ensures laid { Laid nodes.now job.count job.n reach.now (trace_of job.n columns.old) columns.new words.new }
-    ensures rows_len_2 { length rows.new ≡ 64 }
+    ensures rows_kept { length rows.new ≡ 64 }
     ensures least { IsLeast best (λ y. missed_on nodes.now (trace_of job.n columns.old) job.n job.task y (standing spot.cycles)) result }
 {
     let task = job.task;
@@ -184,9 +184,9 @@ pub fn walk(
     rows: &mut [u64],
 ) -> usize
     requires walkable { Walkable spot job best nodes.now reach.now columns.old words.old }
-    requires rows_len { length rows.old ≡ 64 }
+    requires rows_long { length rows.old ≡ 64 }
     ensures laid { Laid nodes.now job.count job.n reach.now (trace_of job.n columns.old) columns.new words.new }
-    ensures rows_len_2 { length rows.new ≡ 64 }
+    ensures rows_kept { length rows.new ≡ 64 }
     ensures walked { Walked job nodes.now (trace_of job.n columns.old) best result rows.old rows.new (over_last spot.left (bit job.names) job.n (standing spot.cycles)) }
 {
     if hopeless(spot, job, best, nodes, reach, columns, words) {

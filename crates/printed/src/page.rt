@@ -57,7 +57,7 @@ fn row_lines(rows: &[u64; 64]) -> [u8; 1088]
 fn page_of(number: usize, rows: &[u64; 64]) -> Page
     requires { number < 100 }
     ensures value { result ≡ page_of (text_of number rows.now) }
-    ensures length_in_bounds { result.length ≤ length result.bytes }
+    ensures within { result.length ≤ length result.bytes }
 {
     if number == 0 {
         let lines = row_lines(rows);

@@ -164,8 +164,8 @@ pub fn word(text: &[u8], ok: bool, at: usize, low: usize, high: usize) -> Leaf
 
 // A comparison, by its number from 0 to 4.
 pub fn comparison(text: &[u8], ok: bool, at: usize) -> Leaf
-    ensures leafs { Leafs comparison_token a_comparison text.now ok at result }
-    ensures value_bound { result.value ≤ 4 }
+    ensures leaf_read { Leafs comparison_token a_comparison text.now ok at result }
+    ensures known_value { result.value ≤ 4 }
 {
     word(text, ok, at, BELOW_SIGN, ABOVE_SIGN)
 }

@@ -29,7 +29,7 @@ fn name_column(columns: &[u64], u: usize) -> u64
 // The column of a proposition node, from its operands' columns in the words.
 pub fn proposition(x: Node, before: usize, n: usize, columns: &[u64], words: &[u64]) -> u64
     requires usable { Usable x before }
-    requires le_op { (1 ≤ x.op) × (x.op ≤ 7) × (n ≤ 64) × (length columns.now ≡ 19) × (64 * before ≤ length words.now) }
+    requires known_op { (1 ≤ x.op) × (x.op ≤ 7) × (n ≤ 64) × (length columns.now ≡ 19) × (64 * before ≤ length words.now) }
     ensures { result ≡ column_of (proposition_op x.op) x n columns.now words.now }
 {
     let op = x.op;
@@ -49,7 +49,7 @@ pub fn proposition(x: Node, before: usize, n: usize, columns: &[u64], words: &[u
 // The column of a formula node's proposition, signal or first name.
 pub fn first(x: Node, before: usize, columns: &[u64], words: &[u64]) -> u64
     requires usable { Usable x before }
-    requires columns_len { (length columns.now ≡ 19) × (64 * before ≤ length words.now) }
+    requires long_enough { (length columns.now ≡ 19) × (64 * before ≤ length words.now) }
     ensures { result ≡ first_column x.op x columns.now words.now }
 {
     let op = x.op;
@@ -75,7 +75,7 @@ pub fn first(x: Node, before: usize, columns: &[u64], words: &[u64]) -> u64
 // The column of a gap's second name.
 pub fn second(x: Node, before: usize, columns: &[u64]) -> u64
     requires usable { Usable x before }
-    requires columns_len { length columns.now ≡ 19 }
+    requires long_enough { length columns.now ≡ 19 }
     ensures { result ≡ second_column x.op x columns.now }
 {
     let op = x.op;

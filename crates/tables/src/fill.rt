@@ -20,7 +20,7 @@ use traces::trace::FIRST_NAME;
 fn put_column(nodes: &[u8], count: usize, n: usize, columns: &[u64], i: usize, words: &mut [u64])
     requires given { Given nodes.now count n columns.now words.old }
     requires before { Before (node_at nodes.now) (trace_of n columns.now) (marks_of columns.now) n words.old i }
-    requires i_lt_count { (i < count) × (sort_of requirement_sorts (node_at nodes.now i).op ≡ proposition) }
+    requires known_node { (i < count) × (sort_of requirement_sorts (node_at nodes.now i).op ≡ proposition) }
     ensures { Filled (node_at nodes.now) (trace_of n columns.now) (marks_of columns.now) n i words.old words.new }
 {
     let x = node_at(nodes, i);
@@ -34,7 +34,7 @@ fn put_column(nodes: &[u8], count: usize, n: usize, columns: &[u64], i: usize, w
 fn put_joined(nodes: &[u8], count: usize, n: usize, columns: &[u64], i: usize, words: &mut [u64])
     requires given { Given nodes.now count n columns.now words.old }
     requires before { Before (node_at nodes.now) (trace_of n columns.now) (marks_of columns.now) n words.old i }
-    requires i_lt_count { (i < count) × ((node_at nodes.now i).op ≡ 20) × Empty i n words.old }
+    requires known_node { (i < count) × ((node_at nodes.now i).op ≡ 20) × Empty i n words.old }
     ensures { Filled (node_at nodes.now) (trace_of n columns.now) (marks_of columns.now) n i words.old words.new }
 {
     let x = node_at(nodes, i);
@@ -58,7 +58,7 @@ fn put_joined(nodes: &[u8], count: usize, n: usize, columns: &[u64], i: usize, w
 fn put_chop(nodes: &[u8], count: usize, n: usize, columns: &[u64], i: usize, words: &mut [u64])
     requires given { Given nodes.now count n columns.now words.old }
     requires before { Before (node_at nodes.now) (trace_of n columns.now) (marks_of columns.now) n words.old i }
-    requires i_lt_count { (i < count) × ((node_at nodes.now i).op ≡ 20) }
+    requires known_node { (i < count) × ((node_at nodes.now i).op ≡ 20) }
     ensures { Filled (node_at nodes.now) (trace_of n columns.now) (marks_of columns.now) n i words.old words.new }
 {
     clear_rows(words, i, n);
@@ -69,7 +69,7 @@ fn put_chop(nodes: &[u8], count: usize, n: usize, columns: &[u64], i: usize, wor
 fn put_and_or(nodes: &[u8], count: usize, n: usize, columns: &[u64], i: usize, words: &mut [u64])
     requires given { Given nodes.now count n columns.now words.old }
     requires before { Before (node_at nodes.now) (trace_of n columns.now) (marks_of columns.now) n words.old i }
-    requires i_lt_count { (i < count) × (21 ≤ (node_at nodes.now i).op) × ((node_at nodes.now i).op < 23) }
+    requires known_node { (i < count) × (21 ≤ (node_at nodes.now i).op) × ((node_at nodes.now i).op < 23) }
     ensures { Filled (node_at nodes.now) (trace_of n columns.now) (marks_of columns.now) n i words.old words.new }
 {
     let x = node_at(nodes, i);
@@ -86,7 +86,7 @@ fn put_and_or(nodes: &[u8], count: usize, n: usize, columns: &[u64], i: usize, w
 fn put_pair(nodes: &[u8], count: usize, n: usize, columns: &[u64], i: usize, words: &mut [u64])
     requires given { Given nodes.now count n columns.now words.old }
     requires before { Before (node_at nodes.now) (trace_of n columns.now) (marks_of columns.now) n words.old i }
-    requires i_lt_count { (i < count) × (is_pair (node_at nodes.now i).op ≡ true) }
+    requires known_node { (i < count) × (is_pair (node_at nodes.now i).op ≡ true) }
     ensures { Filled (node_at nodes.now) (trace_of n columns.now) (marks_of columns.now) n i words.old words.new }
 {
     let x = node_at(nodes, i);
@@ -102,7 +102,7 @@ fn put_pair(nodes: &[u8], count: usize, n: usize, columns: &[u64], i: usize, wor
 fn put_drawing(nodes: &[u8], count: usize, n: usize, columns: &[u64], i: usize, words: &mut [u64])
     requires given { Given nodes.now count n columns.now words.old }
     requires before { Before (node_at nodes.now) (trace_of n columns.now) (marks_of columns.now) n words.old i }
-    requires i_lt_count { (i < count) × (sort_of requirement_sorts (node_at nodes.now i).op ≡ formula) × (27 ≤ (node_at nodes.now i).op) }
+    requires known_node { (i < count) × (sort_of requirement_sorts (node_at nodes.now i).op ≡ formula) × (27 ≤ (node_at nodes.now i).op) }
     ensures { Filled (node_at nodes.now) (trace_of n columns.now) (marks_of columns.now) n i words.old words.new }
 {
     let x = node_at(nodes, i);
@@ -121,7 +121,7 @@ fn put_drawing(nodes: &[u8], count: usize, n: usize, columns: &[u64], i: usize, 
 fn put_star(nodes: &[u8], count: usize, n: usize, columns: &[u64], i: usize, words: &mut [u64])
     requires given { Given nodes.now count n columns.now words.old }
     requires before { Before (node_at nodes.now) (trace_of n columns.now) (marks_of columns.now) n words.old i }
-    requires i_lt_count { (i < count) × ((node_at nodes.now i).op ≡ 23) }
+    requires known_node { (i < count) × ((node_at nodes.now i).op ≡ 23) }
     ensures { Filled (node_at nodes.now) (trace_of n columns.now) (marks_of columns.now) n i words.old words.new }
 {
     let x = node_at(nodes, i);
@@ -142,8 +142,8 @@ fn put_star(nodes: &[u8], count: usize, n: usize, columns: &[u64], i: usize, wor
 fn put_plain(nodes: &[u8], count: usize, n: usize, columns: &[u64], i: usize, words: &mut [u64])
     requires given { Given nodes.now count n columns.now words.old }
     requires before { Before (node_at nodes.now) (trace_of n columns.now) (marks_of columns.now) n words.old i }
-    requires i_lt_count { (i < count) × (sort_of requirement_sorts (node_at nodes.now i).op ≡ formula) }
-    requires i_bound { ((node_at nodes.now i).op < 27) × (is_pair (node_at nodes.now i).op ≡ false) × ((node_at nodes.now i).op ≡ 23 → ⊥) }
+    requires known_node { (i < count) × (sort_of requirement_sorts (node_at nodes.now i).op ≡ formula) }
+    requires plain_op { ((node_at nodes.now i).op < 27) × (is_pair (node_at nodes.now i).op ≡ false) × ((node_at nodes.now i).op ≡ 23 → ⊥) }
     ensures { Filled (node_at nodes.now) (trace_of n columns.now) (marks_of columns.now) n i words.old words.new }
 {
     let x = node_at(nodes, i);
@@ -161,8 +161,8 @@ fn put_plain(nodes: &[u8], count: usize, n: usize, columns: &[u64], i: usize, wo
 fn put_rows(nodes: &[u8], count: usize, n: usize, columns: &[u64], i: usize, words: &mut [u64])
     requires given { Given nodes.now count n columns.now words.old }
     requires before { Before (node_at nodes.now) (trace_of n columns.now) (marks_of columns.now) n words.old i }
-    requires i_lt_count { (i < count) × (sort_of requirement_sorts (node_at nodes.now i).op ≡ formula) }
-    requires i_bound { ((node_at nodes.now i).op < 27) × (is_pair (node_at nodes.now i).op ≡ false) }
+    requires known_node { (i < count) × (sort_of requirement_sorts (node_at nodes.now i).op ≡ formula) }
+    requires plain_op { ((node_at nodes.now i).op < 27) × (is_pair (node_at nodes.now i).op ≡ false) }
     ensures { Filled (node_at nodes.now) (trace_of n columns.now) (marks_of columns.now) n i words.old words.new }
 {
     let x = node_at(nodes, i);
@@ -178,7 +178,7 @@ fn put_rows(nodes: &[u8], count: usize, n: usize, columns: &[u64], i: usize, wor
 fn put_node(nodes: &[u8], count: usize, n: usize, columns: &[u64], i: usize, words: &mut [u64])
     requires given { Given nodes.now count n columns.now words.old }
     requires before { Before (node_at nodes.now) (trace_of n columns.now) (marks_of columns.now) n words.old i }
-    requires i_lt_count { i < count }
+    requires known_node { i < count }
     ensures { Filled (node_at nodes.now) (trace_of n columns.now) (marks_of columns.now) n i words.old words.new }
 {
     let x = node_at(nodes, i);
@@ -263,7 +263,7 @@ pub fn lay(
     requires tables { Tables (node_at nodes.now) count n columns.old words.old }
     requires inside { Inside n cycles }
     ensures columns_after { columns.new ≡ with_names columns.old cycles }
-    ensures tables_2 { Tables (node_at nodes.now) count n columns.new words.new }
+    ensures tables_after { Tables (node_at nodes.now) count n columns.new words.new }
 {
     let moved = move_names(columns, cycles);
     fill(nodes, count, n, reach, moved, columns, words);

@@ -65,7 +65,7 @@ fn shape_row(x: Node, n: usize, first: u64, second: u64, words: &[u64], own: usi
 // slen, scount and sdur.
 fn count_row(x: Node, n: usize, first: u64, second: u64, words: &[u64], own: usize, b: usize) -> u64
     requires usable { Usable x own }
-    requires le_op { (24 ≤ x.op) × (x.op < 27) × (b < n) × (n ≤ 64) }
+    requires known_op { (24 ≤ x.op) × (x.op < 27) × (b < n) × (n ≤ 64) }
     ensures { result ≡ row_of (formula_op x.op) x n first second words.now own b }
 {
     let op = x.op;
@@ -88,7 +88,7 @@ pub fn is_pair(op: usize) -> bool
 // Row b of an and or an or.
 pub fn and_or_row(x: Node, n: usize, words: &[u64], own: usize, b: usize) -> u64
     requires usable { Usable x own }
-    requires le_op { (21 ≤ x.op) × (x.op < 23) × (b < n) × (n ≤ 64) × (64 * own + 64 ≤ length words.now) }
+    requires known_op { (21 ≤ x.op) × (x.op < 23) × (b < n) × (n ≤ 64) × (64 * own + 64 ≤ length words.now) }
     ensures { result ≡ row_of (formula_op x.op) x n 0 0 words.now own b }
 {
     let op = x.op;
@@ -112,7 +112,7 @@ pub fn drawing_row(
     b: usize,
 ) -> u64
     requires usable { Usable x own }
-    requires le_op { (27 ≤ x.op) × (x.op < 30) × (b < n) × (n ≤ 64) }
+    requires known_op { (27 ≤ x.op) × (x.op < 30) × (b < n) × (n ≤ 64) }
     ensures { result ≡ row_of (formula_op x.op) x n first second words.now own b }
 {
     let op = x.op;
@@ -136,7 +136,7 @@ pub fn plain_row(
     b: usize,
 ) -> u64
     requires usable { Usable x own }
-    requires le_op { (16 ≤ x.op) × (x.op < 27) × (is_pair x.op ≡ false) × (x.op ≡ 23 → ⊥) × (b < n) × (n ≤ 64) }
+    requires known_op { (16 ≤ x.op) × (x.op < 27) × (is_pair x.op ≡ false) × (x.op ≡ 23 → ⊥) × (b < n) × (n ≤ 64) }
     ensures { result ≡ row_of (formula_op x.op) x n first second words.now own b }
 {
     let op = x.op;

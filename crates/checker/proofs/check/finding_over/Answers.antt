@@ -16,13 +16,13 @@ use Rattle.checker.proofs.check.finding_over.Goals as goal
 pub first_failing-assumption-requires : goal.first_failing-assumption-requires
 first_failing-assumption-requires c =
     let q = c.requires in
-    record { laid = q.laid; role_le_last_role = (omega arith, q.sounds.0, q.sounds.1) }
+    record { laid = q.laid; known_role = (omega arith, q.sounds.0, q.sounds.1) }
 
 pub first_failing-commitment-requires : goal.first_failing-commitment-requires
 first_failing-commitment-requires c =
     let q = c.requires in
     let r = c.first_failing-assumption.ensures in
-    record { laid = laid_own r.laid_2; role_le_last_role = (omega arith, q.sounds.0, r.rows_len) }
+    record { laid = laid_own r.still_laid; known_role = (omega arith, q.sounds.0, r.rows_long) }
 
 pub returns-in-At : goal.returns-in-At
 unfolding role_of
@@ -42,7 +42,7 @@ returns-in-At-commitment c =
     let w = c.first_failing-commitment.ensures in
     ap Broken c.place_of.ensures
     ∙ finding_broken f a.sizes.clauses σ _ _ (short_trace c.requires.laid) (subst (λ (x : Failing). FailingIs (role_of 0) f a.sizes.clauses σ x) c.in-Nothing.is r.failing_is)
-    (failing_again (role_of 1) f a.sizes.clauses r.laid_2 c.in-At-commitment.is w.failing_is)
+    (failing_again (role_of 1) f a.sizes.clauses r.still_laid c.in-At-commitment.is w.failing_is)
 
 pub returns-in-Nothing-commitment : goal.returns-in-Nothing-commitment
 unfolding role_of
@@ -53,4 +53,4 @@ returns-in-Nothing-commitment c =
     let r = c.first_failing-assumption.ensures in
     let w = c.first_failing-commitment.ensures in
     finding_holds f a.sizes.clauses σ (subst (λ (x : Failing). FailingIs (role_of 0) f a.sizes.clauses σ x) c.in-Nothing.is r.failing_is)
-    (failing_again (role_of 1) f a.sizes.clauses r.laid_2 c.in-Nothing-commitment.is w.failing_is)
+    (failing_again (role_of 1) f a.sizes.clauses r.still_laid c.in-Nothing-commitment.is w.failing_is)

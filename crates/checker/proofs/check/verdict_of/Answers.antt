@@ -21,11 +21,11 @@ failing_advice-advice-requires c =
 pub finding_over-finding-requires : goal.finding_over-finding-requires
 finding_over-finding-requires c =
     let p = c.requires in
-    record { laid = laid_own c.failing_advice-advice.ensures.laid_2; sounds = (p.sounds, c.failing_advice-advice.ensures.rows_len) }
+    record { laid = laid_own c.failing_advice-advice.ensures.still_laid; sounds = (p.sounds, c.failing_advice-advice.ensures.rows_long) }
 
 pub returns : goal.returns
 returns c =
     let p = c.requires in
-    let l = first_laid p.given c.reach_table-reach.ensures c.lay_first.ensures.columns_after c.lay_first.ensures.tables c.lay_first.auto.words in record { value = verdict_again l c.failing_advice-advice.ensures.laid_2 _ c.failing_advice-advice.ensures.value c.finding_over-finding.ensures; words_after = c.clear.ensures
+    let l = first_laid p.given c.reach_table-reach.ensures c.lay_first.ensures.columns_after c.lay_first.ensures.tables c.lay_first.auto.words in record { value = verdict_again l c.failing_advice-advice.ensures.still_laid _ c.failing_advice-advice.ensures.value c.finding_over-finding.ensures; words_after = c.clear.ensures
           ∙ ap (λ (k : ℕ). replicate k 0)
           (c.finding_over-finding.auto.words ∙ c.failing_advice-advice.auto.words ∙ c.lay_first.auto.words) }

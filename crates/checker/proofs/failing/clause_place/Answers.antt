@@ -10,10 +10,10 @@ task_of-task-requires c = omega (arith, c.requires.sound.0.type_least, c.require
 pub walk-requires : goal.walk-requires
 walk-requires c =
     let p = c.requires in
-    record { walkable = clause_walkable p.laid c.args.d _ c.task_of-task.ensures p.sound.0; rows_len = p.sound.1 }
+    record { walkable = clause_walkable p.laid c.args.d _ c.task_of-task.ensures p.sound.0; rows_long = p.sound.1 }
 
 pub returns : goal.returns
 returns c =
     let p = c.requires in
     let r = c.walk.ensures in
-    record { laid_2 = r.laid; rows_len = r.rows_len_2; least = clause_least p.laid c.args.d _ c.task_of-task.ensures p.sound.0 _ (r.walked.places refl) }
+    record { still_laid = r.laid; rows_long = r.rows_kept; least = clause_least p.laid c.args.d _ c.task_of-task.ensures p.sound.0 _ (r.walked.places refl) }

@@ -25,7 +25,7 @@ role_place-found-requires c =
     let q = c.requires in
     let l = c.loop-number in
     let sound = q.sounds.0.sound l.number c.loop-number-test.true in
-    record { laid = laid_own l.invariant.0; role_le_last_role = (omega arith, rw c.stored_at-d.ensures sound, l.invariant.3) }
+    record { laid = laid_own l.invariant.0; known_role = (omega arith, rw c.stored_at-d.ensures sound, l.invariant.3) }
 
 pub overflow_shl-advice : goal.overflow_shl-advice
 overflow_shl-advice c = omega (arith, c.requires.sounds.0.few, c.loop-number-test.true)
@@ -43,10 +43,10 @@ loop-number-preserved c =
     let less = c.loop-number-test.true in
     let place = place_at a.nodes.now a.clauses.now l.number clause.advice l.invariant.0 c.stored_at-d.ensures r.ensures.place_is in
     let p = advised (clause_at a.nodes.now a.clauses.now) (trace_of a.sizes.cycles a.columns.now) in (
-      relaid l.invariant.0 r.ensures.laid_2,
+      relaid l.invariant.0 r.ensures.still_laid,
       r.auto.columns ∙ l.invariant.1,
       r.auto.words ∙ l.invariant.2,
-      r.ensures.rows_len,
+      r.ensures.rows_long,
       omega (arith, less),
       elim c.if-found-lt-PLACES.branch [
         then-found-lt-PLACES w ↦ w.advice-is ∙ advice_set l.number l.advice p (omega (arith, q.sounds.0.few, less)) l.invariant.5 (place.some w.if-found-lt-PLACES.true)
@@ -61,4 +61,4 @@ returns c =
     let end : l.number ≡ a.sizes.clauses = omega (arith, c.loop-number-test.false, l.invariant.4) in
     let f : ℕ → clause.Clause = clause_at a.nodes.now a.clauses.now in
     let σ = trace_of a.sizes.cycles a.columns.now in
-    record { laid_2 = l.invariant.0; rows_len = l.invariant.3; value = l.invariant.5 ∙ ap (λ (n : ℕ). word n (advised f σ)) end ∙ advice_word a.sizes.clauses f σ }
+    record { still_laid = l.invariant.0; rows_long = l.invariant.3; value = l.invariant.5 ∙ ap (λ (n : ℕ). word n (advised f σ)) end ∙ advice_word a.sizes.clauses f σ }

@@ -43,7 +43,7 @@ rows_of-rows-requires c =
     let inside = names_inside a.m a.n (get_or a.given 0 0) (get_or a.given 1 0) (get_or a.given 2 0) g.some_cycles (sym c.names_placed.ensures ∙ c.if-not-names_placed.false) in
     let formula = sym c.is_formula_node.ensures ∙ c.if-not-is_formula_node.false in
     let found = sort_below_lem requirement_sorts (node_at a.nodes.now) a.count a.node 2 (omega arith) (eqb-true _ 2 formula) in
-    record { given = (g, rw c.heed_all.ensures inside); node_lt_count = (found.less, found.sorted) }
+    record { given = (g, rw c.heed_all.ensures inside); known_node = (found.less, found.sorted) }
 
 pub returns : goal.returns
 unfolding placement_of

@@ -62,44 +62,44 @@ joined-returns-then-level-eq0 t c =
 
 pub joined-joined-got-requires : goal.joined-joined-got-requires
 joined-joined-got-requires t c =
-    (omega (arith, c.decreases, c.if-level-eq0.false), (c.requires.ready, omega (arith, c.requires.level_bound)))
+    (omega (arith, c.decreases, c.if-level-eq0.false), (c.requires.ready, omega (arith, c.requires.known_level)))
 
 pub joined-loop-more-init : goal.joined-loop-more-init
 joined-loop-more-init t c =
-    turns_start (level_chain c.args.level c.if-level-eq0.false c.requires.level_bound) c.sign-more.ensures
+    turns_start (level_chain c.args.level c.if-level-eq0.false c.requires.known_level) c.sign-more.ensures
 
 pub joined-joined-second-requires : goal.joined-joined-second-requires
 joined-joined-second-requires t c =
     let ready =
-    turns_ready (level_chain c.args.level c.if-level-eq0.false c.requires.level_bound) c.joined-got.ensures
+    turns_ready (level_chain c.args.level c.if-level-eq0.false c.requires.known_level) c.joined-got.ensures
     c.loop-more.invariant c.requires.ready c.loop-more-test.true in
-    (omega (arith, c.decreases, c.if-level-eq0.false), (ready, omega (arith, c.requires.level_bound)))
+    (omega (arith, c.decreases, c.if-level-eq0.false), (ready, omega (arith, c.requires.known_level)))
 
 pub joined-overflow_add-below : goal.joined-overflow_add-below
 joined-overflow_add-below t c =
-    omega (arith, c.requires.level_bound)
+    omega (arith, c.requires.known_level)
 
 pub joined-join-got-requires : goal.joined-join-got-requires
 joined-join-got-requires t c =
-    turns_joinable (level_chain c.args.level c.if-level-eq0.false c.requires.level_bound) c.joined-got.ensures c.loop-more.invariant
+    turns_joinable (level_chain c.args.level c.if-level-eq0.false c.requires.known_level) c.joined-got.ensures c.loop-more.invariant
     c.requires.ready
     (omega (arith, c.well_formed.0)) c.loop-more-test.true c.joined-second.ensures c.last-left.ensures
 
 pub joined-loop-more-smaller : goal.joined-loop-more-smaller
 joined-loop-more-smaller t c =
-    turns_less (level_chain c.args.level c.if-level-eq0.false c.requires.level_bound) c.loop-more.invariant c.loop-more-test.true
+    turns_less (level_chain c.args.level c.if-level-eq0.false c.requires.known_level) c.loop-more.invariant c.loop-more-test.true
     c.joined-second.ensures c.last-left.ensures
     c.join-got.ensures c.sign-more-in-loop-more.ensures
 
 pub joined-loop-more-preserved : goal.joined-loop-more-preserved
 joined-loop-more-preserved t c =
-    turns_again (level_chain c.args.level c.if-level-eq0.false c.requires.level_bound) c.loop-more.invariant c.loop-more-test.true
+    turns_again (level_chain c.args.level c.if-level-eq0.false c.requires.known_level) c.loop-more.invariant c.loop-more-test.true
     c.joined-second.ensures c.last-left.ensures
     c.join-got.ensures c.sign-more-in-loop-more.ensures
 
 pub joined-returns : goal.joined-returns
 joined-returns t c =
-    turns_end (level_chain c.args.level c.if-level-eq0.false c.requires.level_bound) c.joined-got.ensures c.loop-more.invariant
+    turns_end (level_chain c.args.level c.if-level-eq0.false c.requires.known_level) c.joined-got.ensures c.loop-more.invariant
     c.loop-more-test.false
 
 pub term-returns-then-first-ne-PLAIN : goal.term-returns-then-first-ne-PLAIN
@@ -115,7 +115,7 @@ term-returns-then-word-eq-OPEN_ROUND t c =
 
 pub term-piece-requires : goal.term-piece-requires
 term-piece-requires t c =
-    record { ready = word_ready c.requires c.token-first.ensures c.if-first-ne-PLAIN.false; fact = c.if-word-eq-OPEN_ROUND.false }
+    record { ready = word_ready c.requires c.token-first.ensures c.if-first-ne-PLAIN.false; other_word = c.if-word-eq-OPEN_ROUND.false }
 
 pub term-returns : goal.term-returns
 term-returns t c =

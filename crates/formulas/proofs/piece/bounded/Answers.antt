@@ -5,10 +5,10 @@ use Rattle.formulas.proofs.piece.bounded.Goals as goal
 
 pub over-requires : goal.over-requires
 over-requires c =
-    bounded_puttable c.requires.ready (omega arith) c.requires.close_bound.1 c.proposition-inner.ensures c.sign-end.ensures
+    bounded_puttable c.requires.ready (omega arith) c.requires.known_sign.1 c.proposition-inner.ensures c.sign-end.ensures
 
 pub returns : goal.returns
 returns c =
     let pre = c.requires in
-    bounded_reads pre.ready pre.close_bound.0 pre.fact.0 pre.fact.1 c.proposition-inner.ensures c.sign-end.ensures
+    bounded_reads pre.ready pre.known_sign.0 pre.other_word.0 pre.other_word.1 c.proposition-inner.ensures c.sign-end.ensures
     c.over.ensures

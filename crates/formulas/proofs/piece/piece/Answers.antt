@@ -38,4 +38,4 @@ returns-in_default c =
     let rest = c.in_default.in_default-own.rest in
     other_closes rest.0.0.0.0.0.0.0.0.0.1 rest.0.0.0.0.0.0.0.0.1 rest.0.0.0.0.0.0.0.1
     rest.0.0.0.0.0.0.1 rest.0.0.0.0.0.1
-    rest.0.0.0.0.1 rest.0.0.0.1 rest.0.0.1 rest.0.1 rest.1 c.requires.fact refl refl
+    rest.0.0.0.0.1 rest.0.0.0.1 rest.0.0.1 rest.0.1 rest.1 c.requires.other_word refl refl

@@ -9,15 +9,15 @@ pub put-requires : goal.put-requires
 put-requires c =
     let number = c.number-end.ensures in
     let compared = c.comparison-compared.ensures in
-    alone_puttable {depth = c.args.depth} c.requires (omega arith) (slen_went c.requires compared.leafs number).0
+    alone_puttable {depth = c.args.depth} c.requires (omega arith) (slen_went c.requires compared.leaf_read number).0
     (λ e.
     let small = number.small e in
-    record { op_fits = omega arith; q_fits = omega (arith, compared.value_bound); a_fits = omega arith; b_fits = omega arith })
+    record { op_fits = omega arith; q_fits = omega (arith, compared.known_value); a_fits = omega arith; b_fits = omega arith })
 
 pub returns : goal.returns
 returns c =
     let compared = c.comparison-compared in
     let number = c.number-end in
-    let went = slen_went c.requires compared.ensures.leafs number.ensures in
+    let went = slen_went c.requires compared.ensures.leaf_read number.ensures in
     reads_alone _ refl went.0 c.put.ensures
-    (λ _. slen_same compared.result.value number.result.value _ compared.ensures.value_bound) went.1
+    (λ _. slen_same compared.result.value number.result.value _ compared.ensures.known_value) went.1

@@ -39,4 +39,4 @@ returns c =
     (ap (λ (x : ℕ). 2 ^ 64 - 1 - x) ends) (end ∙ high) l.invariant.3 in
     let some = added_ends a.out.now l.out a.words.now a.root a.names a.short (standing a.cycles) a.n _ l.all l.b few
     (ap (λ (x : ℕ). 2 ^ 64 - 1 - x) ends) (end ∙ high) l.invariant.3 in
-    record { out_len = l.invariant.0; adds = all; ends = some }
+    record { rows_long = l.invariant.0; adds = all; ends = some }

@@ -76,9 +76,9 @@ returns-then-no_reply c =
     let from = c.starts-from in
     let to = c.ends-to in
     let m = c.loop-k in
-    let few = c.requires.n_bound.0 in
+    let few = c.requires.small.0 in
     let inside : p.i < a.n = omega (arith, c.lesser-rows.ensures) in
     rw c.lesser-place.ensures
     (found_least (type_of a.clause_type) a.first.now a.third.now a.answers.now a.n p.i from.result from.ensures l.j to.result to.ensures m.k a.best
-    c.requires.n_bound.1 few inside (omega arith) (omega arith) (l.invariant.1 (omega arith)) (m.invariant.1 (omega arith))
+    c.requires.small.1 few inside (omega arith) (omega arith) (l.invariant.1 (omega arith)) (m.invariant.1 (omega arith))
     (sym c.no_reply.ensures ∙ c.if-no_reply.true) p.invariant.2 l.invariant.2 m.invariant.2)

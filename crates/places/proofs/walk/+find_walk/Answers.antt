@@ -22,50 +22,50 @@ find-lay-requires t c =
 pub find-add-some-requires : goal.find-add-some-requires
 find-add-some-requires t c =
     let w = c.requires.walkable in
-    (root_rows w (lay_placed w c.lay.ensures.columns_after c.lay.ensures.tables_2 c.lay.auto.words) w.formulas.premise, few_cycles w, refl)
+    (root_rows w (lay_placed w c.lay.ensures.columns_after c.lay.ensures.tables_after c.lay.auto.words) w.formulas.premise, few_cycles w, refl)
 
 pub find-returns-then-some-is_premised : goal.find-returns-then-some-is_premised
 find-returns-then-some-is_premised t c =
     let w = c.requires.walkable in
-    let p = lay_placed w c.lay.ensures.columns_after c.lay.ensures.tables_2 c.lay.auto.words in
+    let p = lay_placed w c.lay.ensures.columns_after c.lay.ensures.tables_after c.lay.auto.words in
     let some = c.add-some in
     let none = ap (λ (x : Bool). eqb some.result 0 && x) (sym c.is_premised.ensures) ∙ c.if-some-is_premised.true in
-    record { laid = p.laid; rows_len_2 = c.requires.rows_len; least = find_none w p some.result none some.ensures.ends }
+    record { laid = p.laid; rows_kept = c.requires.rows_long; least = find_none w p some.result none some.ensures.ends }
 
 pub find-add-requires : goal.find-add-requires
 find-add-requires t c =
     let w = c.requires.walkable in
-    (root_rows w (lay_placed w c.lay.ensures.columns_after c.lay.ensures.tables_2 c.lay.auto.words) w.formulas.third, few_cycles w, refl)
+    (root_rows w (lay_placed w c.lay.ensures.columns_after c.lay.ensures.tables_after c.lay.auto.words) w.formulas.third, few_cycles w, refl)
 
 pub find-search-open-requires : goal.find-search-open-requires
 find-search-open-requires t c =
     let w = c.requires.walkable in
-    let rows = ap length (c.clear.ensures ∙ ap (λ (k : ℕ). replicate k 0) c.requires.rows_len) in
-    record { n_bound = (few_cycles w, w.few); in_bounds = (omega (arith, c.add-some.ensures.out_len), omega (arith, c.add.ensures.out_len), omega (arith, rows)) }
+    let rows = ap length (c.clear.ensures ∙ ap (λ (k : ℕ). replicate k 0) c.requires.rows_long) in
+    record { small = (few_cycles w, w.few); long_enough = (omega (arith, c.add-some.ensures.rows_long), omega (arith, c.add.ensures.rows_long), omega (arith, rows)) }
 
 pub find-returns-then-open-best : goal.find-returns-then-open-best
 find-returns-then-open-best t c =
     let w = c.requires.walkable in
-    let p = lay_placed w c.lay.ensures.columns_after c.lay.ensures.tables_2 c.lay.auto.words in
-    let zero = c.clear.ensures ∙ ap (λ (k : ℕ). replicate k 0) c.requires.rows_len in
-    record { laid = p.laid; rows_len_2 = ap length zero; least = find_closed w p c.add-some.ensures.adds c.add.ensures.adds zero c.if-open-best.true c.search-open.ensures }
+    let p = lay_placed w c.lay.ensures.columns_after c.lay.ensures.tables_after c.lay.auto.words in
+    let zero = c.clear.ensures ∙ ap (λ (k : ℕ). replicate k 0) c.requires.rows_long in
+    record { laid = p.laid; rows_kept = ap length zero; least = find_closed w p c.add-some.ensures.adds c.add.ensures.adds zero c.if-open-best.true c.search-open.ensures }
 
 pub find-walk-requires : goal.find-walk-requires
 find-walk-requires t c =
     let w = c.requires.walkable in
-    let p = lay_placed w c.lay.ensures.columns_after c.lay.ensures.tables_2 c.lay.auto.words in
-    (omega (arith, c.decreases), (walkable_within w p, ap length (c.clear.ensures ∙ ap (λ (k : ℕ). replicate k 0) c.requires.rows_len)))
+    let p = lay_placed w c.lay.ensures.columns_after c.lay.ensures.tables_after c.lay.auto.words in
+    (omega (arith, c.decreases), (walkable_within w p, ap length (c.clear.ensures ∙ ap (λ (k : ℕ). replicate k 0) c.requires.rows_long)))
 
 pub find-search-requires : goal.find-search-requires
 find-search-requires t c =
     let w = c.requires.walkable in
-    record { n_bound = (few_cycles w, w.few); in_bounds = (omega (arith, c.add-some.ensures.out_len), omega (arith, c.add.ensures.out_len), omega (arith, c.walk.ensures.rows_len_2)) }
+    record { small = (few_cycles w, w.few); long_enough = (omega (arith, c.add-some.ensures.rows_long), omega (arith, c.add.ensures.rows_long), omega (arith, c.walk.ensures.rows_kept)) }
 
 pub find-returns : goal.find-returns
 find-returns t c =
     let w = c.requires.walkable in
-    let p = lay_placed w c.lay.ensures.columns_after c.lay.ensures.tables_2 c.lay.auto.words in
-    let walked = c.walk.ensures in record { laid = relaid p.laid walked.laid; rows_len_2 = walked.rows_len_2; least = find_open w p c.add-some.ensures.adds c.add.ensures.adds (c.clear.ensures ∙ ap (λ (k : ℕ). replicate k 0) c.requires.rows_len) walked.walked c.search.ensures }
+    let p = lay_placed w c.lay.ensures.columns_after c.lay.ensures.tables_after c.lay.auto.words in
+    let walked = c.walk.ensures in record { laid = relaid p.laid walked.laid; rows_kept = walked.rows_kept; least = find_open w p c.add-some.ensures.adds c.add.ensures.adds (c.clear.ensures ∙ ap (λ (k : ℕ). replicate k 0) c.requires.rows_long) walked.walked c.search.ensures }
 
 pub walk-hopeless-requires : goal.walk-hopeless-requires
 walk-hopeless-requires t c = c.requires.walkable
@@ -74,10 +74,10 @@ pub walk-returns-then-hopeless : goal.walk-returns-then-hopeless
 walk-returns-then-hopeless t c =
     let a = c.args in
     let h = c.hopeless.ensures in
-    record { laid = h.laid; rows_len_2 = c.requires.rows_len; walked = walked_unneeded a.job a.nodes.now _ a.spot (h.unneeded c.if-hopeless.true) }
+    record { laid = h.laid; rows_kept = c.requires.rows_long; walked = walked_unneeded a.job a.nodes.now _ a.spot (h.unneeded c.if-hopeless.true) }
 
 pub walk-answer-requires : goal.walk-answer-requires
-walk-answer-requires t c = record { walkable = walkable_again c.requires.walkable c.hopeless.ensures.laid; rows_len = c.requires.rows_len }
+walk-answer-requires t c = record { walkable = walkable_again c.requires.walkable c.hopeless.ensures.laid; rows_long = c.requires.rows_long }
 
 pub walk-returns-then-job : goal.walk-returns-then-job
 walk-returns-then-job t c =
@@ -85,13 +85,13 @@ walk-returns-then-job t c =
     let h = c.hopeless.ensures.laid in
     let r = c.answer.ensures in
     let added = readded h a.job.task (standing a.spot.cycles) r.adds in
-    record { laid = relaid h r.laid; rows_len_2 = r.rows_len_2; walked = walked_answer a.job a.nodes.now _ a.spot c.if-left-eq0.true c.if-job.true added }
+    record { laid = relaid h r.laid; rows_kept = r.rows_kept; walked = walked_answer a.job a.nodes.now _ a.spot c.if-left-eq0.true c.if-job.true added }
 
 pub walk-find-requires : goal.walk-find-requires
 walk-find-requires t c =
     let p = c.requires in
     let a = c.args in
-    (places_above a.spot.left t a.job.answering c.if-job.false c.decreases, (walkable_again p.walkable c.hopeless.ensures.laid, p.rows_len))
+    (places_above a.spot.left t a.job.answering c.if-job.false c.decreases, (walkable_again p.walkable c.hopeless.ensures.laid, p.rows_long))
 
 pub walk-returns-then-left-eq0 : goal.walk-returns-then-left-eq0
 walk-returns-then-left-eq0 t c =
@@ -99,7 +99,7 @@ walk-returns-then-left-eq0 t c =
     let h = c.hopeless.ensures.laid in
     let r = c.find.ensures in
     let found = refound h a.job.task (standing a.spot.cycles) r.least in
-    record { laid = relaid h r.laid; rows_len_2 = r.rows_len_2; walked = walked_find a.job a.nodes.now _ a.spot c.if-left-eq0.true c.if-job.false found }
+    record { laid = relaid h r.laid; rows_kept = r.rows_kept; walked = walked_find a.job a.nodes.now _ a.spot c.if-left-eq0.true c.if-job.false found }
 
 pub walk-overflow_sub-job : goal.walk-overflow_sub-job
 walk-overflow_sub-job t c = omega (arith, some_cycles c.requires.walkable)
@@ -119,7 +119,7 @@ walk-loop-t-init t c =
       laid_own h,
       refl,
       refl,
-      c.requires.rows_len,
+      c.requires.rows_long,
       omega arith,
       omega (arith, range.0, low, last),
       walked_none a.job a.nodes.now _ a.best _ a.rows.now _,
@@ -169,7 +169,7 @@ walk-loop-t-preserved t c =
       relaid l.invariant.0 r.ensures.laid,
       r.auto.columns ∙ l.invariant.1,
       r.auto.words ∙ l.invariant.2,
-      r.ensures.rows_len_2,
+      r.ensures.rows_kept,
       omega (arith, l.invariant.4),
       omega (arith, c.loop-t-test.true),
       walked_turn a.job a.nodes.now _ _ l.t over l.invariant.4 l.invariant.6
@@ -190,6 +190,6 @@ walk-returns t c =
     let l = c.loop-t in
     let h = c.hopeless.ensures.laid in
     let named = c.has_name-moves.ensures in
-    let some = c.if-left-eq0.false in record { laid = relaid h l.invariant.0; rows_len_2 = l.invariant.3; walked = walked_level a.job a.nodes.now _ a.spot w.long (omega (arith, some)) w.three (some_cycles w)
+    let some = c.if-left-eq0.false in record { laid = relaid h l.invariant.0; rows_kept = l.invariant.3; walked = walked_level a.job a.nodes.now _ a.spot w.long (omega (arith, some)) w.three (some_cycles w)
             (low ∙ ap (λ (x : Bool). low_of x at) named) (last ∙ ap (λ (x : Bool). last_of x a.job.n at) named) (omega (arith, l.invariant.5, c.loop-t-test.false))
             (rewalked h a.job _ l.invariant.6) }

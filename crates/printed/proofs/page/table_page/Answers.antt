@@ -11,4 +11,4 @@ pub returns : goal.returns
 unfolding printed_for
 returns c =
     let e = c.answer_to-answer.ensures.0 in
-    (c.page_of.ensures.value ∙ ap (λ (r : TableAnswer). page_of (text_of r.refused r.rows)) e, c.page_of.ensures.length_in_bounds)
+    (c.page_of.ensures.value ∙ ap (λ (r : TableAnswer). page_of (text_of r.refused r.rows)) e, c.page_of.ensures.within)

@@ -3,4 +3,4 @@ use Rattle.propositions.proofs.Leaves.{comparison_leafs}
 use Rattle.propositions.proofs.leaf.comparison.Goals as goal
 
 pub returns : goal.returns
-returns c = record { leafs = comparison_leafs c.word.ensures; value_bound = c.word.ensures.range }
+returns c = record { leaf_read = comparison_leafs c.word.ensures; known_value = c.word.ensures.range }

@@ -24,7 +24,7 @@ pub put_node-requires : goal.put_node-requires
 put_node-requires c =
     let at = c.loop-i in
     let g = c.requires.given.0 in
-    record { given = given_other _ at.words g.columned at.invariant.0 g; before = sofar_before g.few_cycles at.i at.words at.invariant.1; i_lt_count = c.loop-i-test.true }
+    record { given = given_other _ at.words g.columned at.invariant.0 g; before = sofar_before g.few_cycles at.i at.words at.invariant.1; known_node = c.loop-i-test.true }
 
 pub overflow_add-i : goal.overflow_add-i
 overflow_add-i c = omega (arith, c.requires.given.0.few_nodes)

@@ -27,8 +27,8 @@ and_or_row-row-requires c =
     let q = c.requires in
     let x = c.node_at-x in
     let op = ap (λ (x : Node). x.op) x.ensures in
-    let t = formula_read q.given a.i x.result (omega arith) x.ensures (pair_formula _ (pair_of _ (omega (arith, q.i_lt_count.1)) q.i_lt_count.2)) in
-    record { usable = t.0; le_op = (omega (arith, q.i_lt_count.1), omega (arith, q.i_lt_count.2), omega (arith, c.loop-b.invariant.0), omega (arith, q.given), omega (arith, q.given, c.loop-b.invariant.1)) }
+    let t = formula_read q.given a.i x.result (omega arith) x.ensures (pair_formula _ (pair_of _ (omega (arith, q.known_node.1)) q.known_node.2)) in
+    record { usable = t.0; known_op = (omega (arith, q.known_node.1), omega (arith, q.known_node.2), omega (arith, c.loop-b.invariant.0), omega (arith, q.given), omega (arith, q.given, c.loop-b.invariant.1)) }
 
 pub overflow_mul-words : goal.overflow_mul-words
 overflow_mul-words c = omega (arith, c.requires.given)
@@ -51,11 +51,11 @@ loop-b-preserved c =
     let q = c.requires in
     let at = c.loop-b in
     let x = c.node_at-x in
-    let stored = pair_of _ (omega (arith, q.i_lt_count.1)) q.i_lt_count.2 in
+    let stored = pair_of _ (omega (arith, q.known_node.1)) q.known_node.2 in
     let pair = ap (λ (x : Node). is_pair x.op) x.ensures ∙ stored in (
       omega arith,
       length-set at.words _ _ ∙ at.invariant.1,
-      partly_row q.given a.i q.i_lt_count.0 x.result 0 0 at.b _ a.words.now at.words x.ensures (pair_formula _ stored)
+      partly_row q.given a.i q.known_node.0 x.result 0 0 at.b _ a.words.now at.words x.ensures (pair_formula _ stored)
           c.loop-b-test.true at.invariant.0 at.invariant.1 q.before
           (pair_first _ x.result a.columns.now a.words.now pair) (pair_second _ x.result a.columns.now pair)
           c.and_or_row-row.ensures at.invariant.2,
@@ -67,4 +67,4 @@ returns c =
     let q = c.requires in
     let at = c.loop-b in
     let none : at.b ≡ 0 = omega arith in
-    partly_all q.given.few_cycles a.i at.b a.words.now at.words none (pair_formula _ (pair_of _ (omega (arith, q.i_lt_count.1)) q.i_lt_count.2)) at.invariant.2
+    partly_all q.given.few_cycles a.i at.b a.words.now at.words none (pair_formula _ (pair_of _ (omega (arith, q.known_node.1)) q.known_node.2)) at.invariant.2

@@ -15,9 +15,9 @@ pub proposition-set-requires : goal.proposition-set-requires
 proposition-set-requires c =
     let a = c.args in
     let g = c.requires.given in
-    let s = c.requires.i_lt_count.1 in
+    let s = c.requires.known_node.1 in
     let t = proposition_read g a.i c.node_at-x.result (omega arith) c.node_at-x.ensures s in
-    record { usable = t.0; le_op = (omega (arith, t.1, g.few_cycles, g.columned.all)) }
+    record { usable = t.0; known_op = (omega (arith, t.1, g.few_cycles, g.columned.all)) }
 
 pub overflow_mul-words : goal.overflow_mul-words
 overflow_mul-words c = omega (arith, c.requires.given)
@@ -33,7 +33,7 @@ returns c =
     let a = c.args in
     let g = c.requires.given in
     let before = c.requires.before in
-    let s = c.requires.i_lt_count.1 in
+    let s = c.requires.known_node.1 in
     column_put g.few_cycles a.i _ _ a.words.now refl (omega (arith, g)) s
     (c.proposition-set.ensures
     ∙ ap (λ (x : Node). column_of (proposition_op x.op) x a.n a.columns.now a.words.now) c.node_at-x.ensures

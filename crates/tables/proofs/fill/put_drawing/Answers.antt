@@ -14,17 +14,17 @@ pub first-first-requires : goal.first-first-requires
 first-first-requires c =
     let a = c.args in
     let g = c.requires.given in
-    let s = c.requires.i_lt_count.1 in
+    let s = c.requires.known_node.1 in
     let t = formula_read g a.i c.node_at-x.result (omega arith) c.node_at-x.ensures s in
-    record { usable = t.0; columns_len = (omega (arith, g, g.columned.all)) }
+    record { usable = t.0; long_enough = (omega (arith, g, g.columned.all)) }
 
 pub second-second-requires : goal.second-second-requires
 second-second-requires c =
     let a = c.args in
     let g = c.requires.given in
-    let s = c.requires.i_lt_count.1 in
+    let s = c.requires.known_node.1 in
     let t = formula_read g a.i c.node_at-x.result (omega arith) c.node_at-x.ensures s in
-    record { usable = t.0; columns_len = (omega (arith, g, g.columned.all)) }
+    record { usable = t.0; long_enough = (omega (arith, g, g.columned.all)) }
 
 pub loop-b-init : goal.loop-b-init
 loop-b-init c =
@@ -39,11 +39,11 @@ pub drawing_row-row-requires : goal.drawing_row-row-requires
 drawing_row-row-requires c =
     let a = c.args in
     let g = c.requires.given in
-    let s = c.requires.i_lt_count.1 in
+    let s = c.requires.known_node.1 in
     let node = c.node_at-x.ensures in
     let t = formula_read g a.i c.node_at-x.result (omega arith) node s in
     let same = ap (λ (x : Node). x.op) node in
-    record { usable = t.0; le_op = ((omega (arith, c.requires.i_lt_count.2, same)), (omega (arith, t.1)), (omega (arith, c.loop-b.invariant.0)), (omega (arith, g))) }
+    record { usable = t.0; known_op = ((omega (arith, c.requires.known_node.2, same)), (omega (arith, t.1)), (omega (arith, c.loop-b.invariant.0)), (omega (arith, g))) }
 
 pub overflow_mul-words : goal.overflow_mul-words
 overflow_mul-words c = omega (arith, c.requires.given)
@@ -65,9 +65,9 @@ loop-b-preserved c =
     let a = c.args in
     let g = c.requires.given in
     let before = c.requires.before in
-    let s = c.requires.i_lt_count.1 in
+    let s = c.requires.known_node.1 in
     let at = c.loop-b in
-    let h = c.requires.i_lt_count.0 in
+    let h = c.requires.known_node.0 in
     let x = c.node_at-x in
     let first = c.first-first in
     let second = c.second-second in (
@@ -82,7 +82,7 @@ returns c =
     let a = c.args in
     let g = c.requires.given in
     let before = c.requires.before in
-    let s = c.requires.i_lt_count.1 in
+    let s = c.requires.known_node.1 in
     let at = c.loop-b in
     let none : at.b ≡ 0 = omega arith in
     partly_all g.few_cycles a.i at.b a.words.now at.words none s at.invariant.2

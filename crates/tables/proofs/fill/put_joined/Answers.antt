@@ -21,7 +21,7 @@ pub loop-b-init : goal.loop-b-init
 loop-b-init c =
     let a = c.args in
     let q = c.requires in
-    (omega arith, refl, partly_none q.given.few_cycles a.i a.words.now, sym (joined_none (row_at a.words.now c.node_at-x.result.b)), q.i_lt_count.2)
+    (omega arith, refl, partly_none q.given.few_cycles a.i a.words.now, sym (joined_none (row_at a.words.now c.node_at-x.result.b)), q.known_node.2)
 
 pub overflow_sub-b : goal.overflow_sub-b
 overflow_sub-b c = omega arith
@@ -31,7 +31,7 @@ row_at-ends-requires c =
     let a = c.args in
     let q = c.requires in
     let x = c.node_at-x in
-    let r = chop_read q.given a.i x.result q.i_lt_count.0 x.ensures q.i_lt_count.1 in
+    let r = chop_read q.given a.i x.result q.known_node.0 x.ensures q.known_node.1 in
     omega (arith, q.given, r.first, c.loop-b.invariant.0, c.loop-b.invariant.1)
 
 pub joined_at-kept-requires : goal.joined_at-kept-requires
@@ -40,7 +40,7 @@ joined_at-kept-requires c =
     let q = c.requires in
     let x = c.node_at-x in
     let at = c.loop-b in
-    let r = chop_read q.given a.i x.result q.i_lt_count.0 x.ensures q.i_lt_count.1 in
+    let r = chop_read q.given a.i x.result q.known_node.0 x.ensures q.known_node.1 in
     (omega (arith, q.given, r.second, at.invariant.1), at.invariant.3)
 
 pub overflow_mul-words : goal.overflow_mul-words
@@ -67,11 +67,11 @@ loop-b-preserved-then-ends-ne0 c =
     let at = c.loop-b in
     let ends = c.row_at-ends in
     let row = c.joined_at-kept in
-    let r = chop_read q.given a.i x.result q.i_lt_count.0 x.ensures q.i_lt_count.1 in
+    let r = chop_read q.given a.i x.result q.known_node.0 x.ensures q.known_node.1 in
     let apart : x.result.b ≡ a.i → ⊥ = λ e. let l = r.second in omega arith in (
       omega arith,
       length-set at.words _ _ ∙ at.invariant.1,
-      partly_row q.given a.i q.i_lt_count.0 x.result 0 0 at.b _ a.words.now at.words x.ensures r.formula
+      partly_row q.given a.i q.known_node.0 x.result 0 0 at.b _ a.words.now at.words x.ensures r.formula
           c.loop-b-test.true at.invariant.0 at.invariant.1 q.before
           (pair_first _ x.result a.columns.now a.words.now r.pair) (pair_second _ x.result a.columns.now r.pair)
           (row_told x.result 20 a.n 0 0 at.words a.i (at.b - 1) _ r.op
@@ -92,14 +92,14 @@ loop-b-preserved c =
     let x = c.node_at-x in
     let at = c.loop-b in
     let ends = c.row_at-ends in
-    let r = chop_read q.given a.i x.result q.i_lt_count.0 x.ensures q.i_lt_count.1 in
+    let r = chop_read q.given a.i x.result q.known_node.0 x.ensures q.known_node.1 in
     let more = c.loop-b-test.true in
     let rows = row_at at.words x.result.b in
     let here = at.invariant.4.none (at.b - 1) (omega arith) in (
       omega arith,
       at.invariant.1,
       partly_there q.given.few_cycles a.i at.b a.words.now at.words more
-          (row_right q.given a.i q.i_lt_count.0 x.result 0 0 at.b _ a.words.now at.words x.ensures r.formula more at.invariant.0 q.before
+          (row_right q.given a.i q.known_node.0 x.result 0 0 at.b _ a.words.now at.words x.ensures r.formula more at.invariant.0 q.before
           (pair_first _ x.result a.columns.now a.words.now r.pair) (pair_second _ x.result a.columns.now r.pair)
           (row_told x.result 20 a.n 0 0 at.words a.i (at.b - 1) _ r.op
           (here ∙ sym (joined_none rows) ∙ ap (λ (z : ℕ). joined z rows) (sym c.if-ends-ne0.false ∙ ends.ensures)))
@@ -115,6 +115,6 @@ returns c =
     let q = c.requires in
     let x = c.node_at-x in
     let at = c.loop-b in
-    let r = chop_read q.given a.i x.result q.i_lt_count.0 x.ensures q.i_lt_count.1 in
+    let r = chop_read q.given a.i x.result q.known_node.0 x.ensures q.known_node.1 in
     let none : at.b ≡ 0 = omega arith in
     partly_all q.given.few_cycles a.i at.b a.words.now at.words none r.formula at.invariant.2

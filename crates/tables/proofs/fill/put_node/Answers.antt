@@ -15,7 +15,7 @@ pub put_pair-requires : goal.put_pair-requires
 put_pair-requires c =
     let p = c.requires in
     let pair = ap (λ (x : Node). is_pair x.op) (sym c.node_at-x.ensures) ∙ sym c.is_pair.ensures in
-    record { given = p.given; before = p.before; i_lt_count = (p.i_lt_count, pair ∙ c.if-is_pair.true) }
+    record { given = p.given; before = p.before; known_node = (p.known_node, pair ∙ c.if-is_pair.true) }
 
 pub returns-then-is_pair : goal.returns-then-is_pair
 returns-then-is_pair c = c.put_pair.ensures
@@ -24,7 +24,7 @@ pub put_column-requires : goal.put_column-requires
 put_column-requires c =
     let p = c.requires in
     let sort = ap (λ (x : Node). sort_of requirement_sorts x.op) (sym c.node_at-x.ensures) ∙ sym c.sort_of-sort.ensures in
-    record { given = p.given; before = p.before; i_lt_count = (p.i_lt_count, sort ∙ c.if-sort-eq1.true) }
+    record { given = p.given; before = p.before; known_node = (p.known_node, sort ∙ c.if-sort-eq1.true) }
 
 pub returns-then-sort-eq1 : goal.returns-then-sort-eq1
 returns-then-sort-eq1 c = c.put_column.ensures
@@ -37,7 +37,7 @@ put_rows-requires c =
     let op = ap (λ (x : Node). x.op) (sym node) in
     let sort = ap (λ (x : Node). sort_of requirement_sorts x.op) (sym c.node_at-x.ensures) ∙ sym c.sort_of-sort.ensures in
     let pair = ap (λ (x : Node). is_pair x.op) (sym node) ∙ sym c.is_pair.ensures in
-    record { given = p.given; before = p.before; i_lt_count = (p.i_lt_count, formula_left _ (node_sorted p.given a.i p.i_lt_count) (λ e. c.if-sort-eq1.false (sym sort ∙ e))); i_bound = (omega (arith, op, c.if-op-lt27.true), pair ∙ c.if-is_pair.false) }
+    record { given = p.given; before = p.before; known_node = (p.known_node, formula_left _ (node_sorted p.given a.i p.known_node) (λ e. c.if-sort-eq1.false (sym sort ∙ e))); plain_op = (omega (arith, op, c.if-op-lt27.true), pair ∙ c.if-is_pair.false) }
 
 pub put_drawing-requires : goal.put_drawing-requires
 put_drawing-requires c =
@@ -45,7 +45,7 @@ put_drawing-requires c =
     let p = c.requires in
     let op = ap (λ (x : Node). x.op) (sym c.node_at-x.ensures) in
     let sort = ap (λ (x : Node). sort_of requirement_sorts x.op) (sym c.node_at-x.ensures) ∙ sym c.sort_of-sort.ensures in
-    record { given = p.given; before = p.before; i_lt_count = (p.i_lt_count, formula_left _ (node_sorted p.given a.i p.i_lt_count) (λ e. c.if-sort-eq1.false (sym sort ∙ e)), (omega (arith, op, c.if-op-lt27.false))) }
+    record { given = p.given; before = p.before; known_node = (p.known_node, formula_left _ (node_sorted p.given a.i p.known_node) (λ e. c.if-sort-eq1.false (sym sort ∙ e)), (omega (arith, op, c.if-op-lt27.false))) }
 
 pub returns-then-op-lt27 : goal.returns-then-op-lt27
 returns-then-op-lt27 c = c.put_rows.ensures

@@ -12,14 +12,14 @@ pub put_chop-requires : goal.put_chop-requires
 put_chop-requires c =
     let q = c.requires in
     let op = ap (λ (x : Node). x.op) (sym c.node_at-x.ensures) in
-    record { given = q.given; before = q.before; i_lt_count = (q.i_lt_count.0, op ∙ c.if-op-eq-CHOP.true) }
+    record { given = q.given; before = q.before; known_node = (q.known_node.0, op ∙ c.if-op-eq-CHOP.true) }
 
 pub put_and_or-requires : goal.put_and_or-requires
 put_and_or-requires c =
     let q = c.requires in
     let op = ap (λ (x : Node). x.op) c.node_at-x.ensures in
-    let o = pair_ops _ q.i_lt_count.1 in
-    record { given = q.given; before = q.before; i_lt_count = (q.i_lt_count.0, omega (arith, o.least, c.if-op-eq-CHOP.false), o.most) }
+    let o = pair_ops _ q.known_node.1 in
+    record { given = q.given; before = q.before; known_node = (q.known_node.0, omega (arith, o.least, c.if-op-eq-CHOP.false), o.most) }
 
 pub returns-then-op-eq-CHOP : goal.returns-then-op-eq-CHOP
 returns-then-op-eq-CHOP c = c.put_chop.ensures

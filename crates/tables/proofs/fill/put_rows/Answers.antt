@@ -11,13 +11,13 @@ pub put_star-requires : goal.put_star-requires
 put_star-requires c =
     let q = c.requires in
     let op = ap (λ (x : Node). x.op) (sym c.node_at-x.ensures) in
-    record { given = q.given; before = q.before; i_lt_count = (q.i_lt_count.0, op ∙ c.if-op-eq-STAR.true) }
+    record { given = q.given; before = q.before; known_node = (q.known_node.0, op ∙ c.if-op-eq-STAR.true) }
 
 pub put_plain-requires : goal.put_plain-requires
 put_plain-requires c =
     let q = c.requires in
     let op = ap (λ (x : Node). x.op) c.node_at-x.ensures in
-    record { given = q.given; before = q.before; i_lt_count = q.i_lt_count; i_bound = (q.i_bound.0, q.i_bound.1, λ e. c.if-op-eq-STAR.false (op ∙ e)) }
+    record { given = q.given; before = q.before; known_node = q.known_node; plain_op = (q.plain_op.0, q.plain_op.1, λ e. c.if-op-eq-STAR.false (op ∙ e)) }
 
 pub returns-then-op-eq-STAR : goal.returns-then-op-eq-STAR
 returns-then-op-eq-STAR c = c.put_star.ensures

@@ -32,7 +32,7 @@ row_at-requires c =
     let a = c.args in
     let q = c.requires in
     let x = c.node_at-x in
-    let r = star_read q.given a.i x.result q.i_lt_count.0 x.ensures q.i_lt_count.1 in
+    let r = star_read q.given a.i x.result q.known_node.0 x.ensures q.known_node.1 in
     omega (arith, q.given, r.first, c.loop-b.invariant.0, c.loop-b.invariant.1)
 
 pub joined_at-kept-requires : goal.joined_at-kept-requires
@@ -68,13 +68,13 @@ loop-b-preserved c =
     let at = c.loop-b in
     let links = c.row_at in
     let row = c.joined_at-kept in
-    let r = star_read q.given a.i x.result q.i_lt_count.0 x.ensures q.i_lt_count.1 in
+    let r = star_read q.given a.i x.result q.known_node.0 x.ensures q.known_node.1 in
     let stars = row_at at.words a.i in
     let later = ap (λ (z : ℕ). bit_and links.result (2 ^ 64 - 1 - z)) c.below.ensures in
     let value = bit_or c.only.result row.result in (
       omega arith,
       length-set at.words _ _ ∙ at.invariant.1,
-      partly_row q.given a.i q.i_lt_count.0 x.result 0 0 at.b value a.words.now at.words x.ensures r.formula
+      partly_row q.given a.i q.known_node.0 x.result 0 0 at.b value a.words.now at.words x.ensures r.formula
           c.loop-b-test.true at.invariant.0 at.invariant.1 q.before
           (star_first _ x.result a.columns.now a.words.now r.op) (star_second _ x.result a.columns.now r.op)
           (row_told x.result 23 a.n 0 0 at.words a.i (at.b - 1) value r.op
@@ -89,6 +89,6 @@ returns c =
     let q = c.requires in
     let x = c.node_at-x in
     let at = c.loop-b in
-    let r = star_read q.given a.i x.result q.i_lt_count.0 x.ensures q.i_lt_count.1 in
+    let r = star_read q.given a.i x.result q.known_node.0 x.ensures q.known_node.1 in
     let none : at.b ≡ 0 = omega arith in
     partly_all q.given.few_cycles a.i at.b a.words.now at.words none r.formula at.invariant.2

@@ -11,13 +11,13 @@ use Rattle.tables.proofs.line.and_or_row.Goals as goal
 pub row_at-left-requires : goal.row_at-left-requires
 row_at-left-requires c =
     let q = c.requires in
-    omega (arith, q.usable.a_formula (joins_formula c.args.x.op (omega (arith, q.le_op.0)) (omega (arith, q.le_op.1))), q.le_op.2, q.le_op.3, q.le_op.4)
+    omega (arith, q.usable.a_formula (joins_formula c.args.x.op (omega (arith, q.known_op.0)) (omega (arith, q.known_op.1))), q.known_op.2, q.known_op.3, q.known_op.4)
 
 pub row_at-right-requires : goal.row_at-right-requires
 row_at-right-requires c =
     let q = c.requires in
     let op = c.args.x.op in
-    omega (arith, q.usable.b_formula (pair_right op (pair_of op (omega (arith, q.le_op.0)) (omega (arith, q.le_op.1)))), q.le_op.2, q.le_op.3, q.le_op.4)
+    omega (arith, q.usable.b_formula (pair_right op (pair_of op (omega (arith, q.known_op.0)) (omega (arith, q.known_op.1)))), q.known_op.2, q.known_op.3, q.known_op.4)
 
 pub returns-then-op-eq-AND : goal.returns-then-op-eq-AND
 unfolding formula_op row_of
@@ -30,5 +30,5 @@ unfolding formula_op row_of
 returns-else-op-eq-AND c =
     let a = c.args in
     let q = c.requires in
-    let at : a.x.op ≡ 22 = omega (arith, q.le_op.0, q.le_op.1, c.if-op-eq-AND.false) in
+    let at : a.x.op ≡ 22 = omega (arith, q.known_op.0, q.known_op.1, c.if-op-eq-AND.false) in
     row_told a.x 22 a.n 0 0 a.words.now a.own a.b _ at (ap₂ bit_or c.row_at-left.ensures c.row_at-right.ensures)
