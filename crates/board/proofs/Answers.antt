@@ -13,7 +13,6 @@ use Rattle.stored.specs.Layout.{least_words}
 use Rattle.stored.specs.Sheet.{sheet_rules, sheet_refusal}
 use Rattle.stored.specs.Tree.{pick}
 use Rattle.checker.specs.declared.check.Verdict.{Verdict}
-use Rattle.checker.specs.declared.check.Answer.{Answer}
 use Rattle.checker.specs.declared.check.Answer.TheVariants.{Refused, Checked}
 use Rattle.checker.specs.Small.{Small}
 use Rattle.checker.specs.Table.{words_refusal}

@@ -17,7 +17,7 @@ use Rattle.stored.specs.Sheet.{framed, sheet_rules, sheet_refusal, sheet_answer,
 use Rattle.stored.specs.Tree.{pick}
 use Rattle.stored.proofs.Rules.{lowest_kept}
 use Rattle.stored.proofs.Written.{sets_front, get_or_put}
-use Rattle.stored.proofs.Accepted.{Opened, opened, answer_accepted, answer_refused, sheet_number_lem}
+use Rattle.stored.proofs.Accepted.{opened, answer_accepted, answer_refused, sheet_number_lem}
 use Rattle.lines.specs.Input.{split_at, sheet_of}
 use Rattle.board.specs.Board.{Sized, sheet_on, cycles_on, new_board, open_answer}
 use Rattle.board.specs.declared.Opened as board

@@ -10,7 +10,7 @@ use lib.Dec.{leb, ltb, eqb}
 use lib.ListN.{length, get_or, set, get_or-eq_default}
 use lib.Seq.{get_or-set_same, get_or-set_other}
 use Rattle.semantics.specs.Proposition.{Proposition}
-use Rattle.semantics.specs.Formula.{Formula, below}
+use Rattle.semantics.specs.Formula.{Formula}
 use Rattle.semantics.specs.Cycles.{count_below}
 use Rattle.semantics.specs.Translation.{undrawn}
 use Rattle.semantics.proofs.Tests.{test, and_left, and_right}

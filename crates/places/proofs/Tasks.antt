@@ -24,7 +24,6 @@ use Rattle.places.specs.declared.task.Task.{Task}
 use Rattle.tables.specs.Table.{standing}
 use Rattle.intervals.specs.Search.{fresh, quantified, premise, reply, on_inside, short_inside, answered, missed, missed_by}
 use Rattle.intervals.specs.Places.{numbered, IsLeast}
-use Rattle.intervals.specs.Rows.{type_of}
 use Rattle.places.specs.Task.{type_numbered, task_of, missed_task}
 use Rattle.intervals.proofs.Outside.{breaks_out, and_placement}
 use Rattle.intervals.proofs.Places.{least_ext, numbered_same}

@@ -1,5 +1,4 @@
 -- `classes::among` meets its contract.
-use Prim.Native.Nat.{◌-◌}
 use mathlib.Core.Path.{refl, sym, ◌∙◌}
 use native.Mathlib.Omega.{arith}
 use Rattle.classes.proofs.Listed.{among_here, among_later, among_none}

@@ -1,5 +1,4 @@
 -- `classfile::file` meets its contract.
-use Prim.Native.Nat.{◌-◌}
 use mathlib.Core.Path.{◌≡◌, refl, ◌∙◌}
 use native.Mathlib.Omega.{arith}
 use Rattle.grammar.specs.Class.{bytes_from, bytes_of}

@@ -7,7 +7,7 @@ pub returns-then-rows-lt64 : goal.returns-then-rows-lt64
 returns-then-rows-lt64 c =
     let args = c.args in
     let all =
-        short_law
+    short_law
     args.sheet.now
     args.trace.now
     args.node
@@ -32,7 +32,7 @@ returns c =
     let table = c.table-answer in
     let put = c.put_answer in
     let all =
-        long_law
+    long_law
     args.sheet.now
     args.trace.now
     args.node

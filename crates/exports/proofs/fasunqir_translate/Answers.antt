@@ -8,5 +8,5 @@ packed_writing-requires c = formula_small _ _ _ _ c.translate-answer.ensures
 pub returns : goal.returns
 returns c =
     let all =
-        formula_packed _ _ _ c.translate-answer.result c.packed_writing.result c.translate-answer.ensures c.packed_writing.ensures in
+    formula_packed _ _ _ c.translate-answer.result c.packed_writing.result c.translate-answer.ensures c.packed_writing.ensures in
     record { value = all.0; translated = all.1 }

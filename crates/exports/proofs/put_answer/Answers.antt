@@ -7,7 +7,7 @@ pub returns-then-answer-ne0 : goal.returns-then-answer-ne0
 returns-then-answer-ne0 c =
     let answer = c.args.answer in
     let all =
-        put_none answer.refused answer.rows _ c.if-answer-ne0.true in
+    put_none answer.refused answer.rows _ c.if-answer-ne0.true in
     record { value = all.0; rows_after = all.1 }
 
 pub returns : goal.returns

@@ -1,5 +1,4 @@
 -- `lexer::skip_blanks` meets its contract.
-use Prim.Native.Nat.{◌-◌}
 use mathlib.Core.Path.{refl, ◌∙◌}
 use native.Mathlib.Omega.{arith}
 use Rattle.grammar.specs.Token.{is_blank}

@@ -1,8 +1,6 @@
 -- `translator::translate` meets its contract.
-use mathlib.Core.Path.{◌≡◌, sym, ◌∙◌, subst}
+use mathlib.Core.Path.{sym, ◌∙◌, subst}
 use native.Mathlib.Omega.{arith}
-use Rattle.stored.specs.Sheet.{sheet_answer}
-use Rattle.stored.specs.declared.SheetAnswer.{SheetAnswer}
 use Rattle.stored.proofs.Accepted.{Counts}
 use Rattle.translator.proofs.Translating.{opened_sheet, header_is, sheet_refused, output_refused, drafted, run_translated}
 use Rattle.translator.proofs.translate.Goals as goal

@@ -1,5 +1,4 @@
 -- `board::Board::feed_all` meets its contract.
-use Prim.Native.Nat.{◌-◌}
 use native.Mathlib.Omega.{arith}
 use borrow.Author.Rules.{rules}
 use Rattle.board.specs.Feeds.{lent}

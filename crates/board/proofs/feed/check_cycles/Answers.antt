@@ -30,5 +30,5 @@ returns c =
     let front = trace_front _ _ a.s a.cycles.now (c.trace_end-end.result - 0) (omega (arith, c.requires.1)) c.put_trace.ensures (omega (arith, c.trace_end-end.ensures)) in
     let told = c.check.ensures in
     let all =
-        subst (λ (t : List ℕ). (c.check.result ≡ check_answer a.sheet.now t a.words.now) × (c.check.new.words ≡ words_after (check_refusal a.sheet.now t a.words.now) a.words.now)) front (told.value, told.words_after) in
+    subst (λ (t : List ℕ). (c.check.result ≡ check_answer a.sheet.now t a.words.now) × (c.check.new.words ≡ words_after (check_refusal a.sheet.now t a.words.now) a.words.now)) front (told.value, told.words_after) in
     record { value = all.0; words_after = all.1 }

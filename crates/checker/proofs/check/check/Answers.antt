@@ -8,7 +8,7 @@ pub returns-in_default : goal.returns-in_default
 returns-in_default c =
     let a = c.args in
     let all =
-        check_sheet a.sheet.now a.trace.now a.words.now _ _ _ c.read_sheet-sheet_answer.ensures c.in_default.is c.sheet_number.ensures in
+    check_sheet a.sheet.now a.trace.now a.words.now _ _ _ c.read_sheet-sheet_answer.ensures c.in_default.is c.sheet_number.ensures in
     record { value = all.0; words_after = all.1 }
 
 pub returns-in_default-trace_answer : goal.returns-in_default-trace_answer
@@ -16,7 +16,7 @@ returns-in_default-trace_answer c =
     let a = c.args in
     let accepted = sym c.read_sheet-sheet_answer.ensures ∙ c.in-Accepted.is in
     let all =
-        check_trace a.sheet.now a.trace.now a.words.now _ accepted _ _ _ c.read_trace-trace_answer.ensures c.in_default-trace_answer.is c.trace_number.ensures in
+    check_trace a.sheet.now a.trace.now a.words.now _ accepted _ _ _ c.read_trace-trace_answer.ensures c.in_default-trace_answer.is c.trace_number.ensures in
     record { value = all.0; words_after = all.1 }
 
 pub returns-then-words-lt-LEAST_WORDS : goal.returns-then-words-lt-LEAST_WORDS
@@ -24,7 +24,7 @@ returns-then-words-lt-LEAST_WORDS c =
     let a = c.args in
     let accepted = sym c.read_sheet-sheet_answer.ensures ∙ c.in-Accepted.is in
     let all =
-        check_words a.sheet.now a.trace.now a.words.now _ accepted _ (sym c.read_trace-trace_answer.ensures ∙ c.in-Cycles.is) c.if-words-lt-LEAST_WORDS.true in
+    check_words a.sheet.now a.trace.now a.words.now _ accepted _ (sym c.read_trace-trace_answer.ensures ∙ c.in-Cycles.is) c.if-words-lt-LEAST_WORDS.true in
     record { value = all.0; words_after = all.1 }
 
 pub node_part-nodes-requires : goal.node_part-nodes-requires
@@ -52,5 +52,5 @@ returns c =
     let accepted = sym c.read_sheet-sheet_answer.ensures ∙ c.in-Accepted.is in
     let r = c.verdict_of-verdict.ensures in
     let all =
-        check_verdict a.sheet.now a.trace.now a.words.now _ accepted _ (sym c.read_trace-trace_answer.ensures ∙ c.in-Cycles.is) _ _ _ _ _ c.if-words-lt-LEAST_WORDS.false c.node_part-nodes.ensures c.clause_part-clauses.ensures c.columns-columns.ensures r.value r.words_after in
+    check_verdict a.sheet.now a.trace.now a.words.now _ accepted _ (sym c.read_trace-trace_answer.ensures ∙ c.in-Cycles.is) _ _ _ _ _ c.if-words-lt-LEAST_WORDS.false c.node_part-nodes.ensures c.clause_part-clauses.ensures c.columns-columns.ensures r.value r.words_after in
     record { value = all.0; words_after = all.1 }

@@ -26,6 +26,9 @@ finding_over-finding-requires c =
 pub returns : goal.returns
 returns c =
     let p = c.requires in
-    let l = first_laid p.given c.reach_table-reach.ensures c.lay_first.ensures.columns_after c.lay_first.ensures.tables c.lay_first.auto.words in record { value = verdict_again l c.failing_advice-advice.ensures.still_laid _ c.failing_advice-advice.ensures.value c.finding_over-finding.ensures; words_after = c.clear.ensures
+    let l = first_laid p.given c.reach_table-reach.ensures c.lay_first.ensures.columns_after c.lay_first.ensures.tables c.lay_first.auto.words in record {
+      value = verdict_again l c.failing_advice-advice.ensures.still_laid _ c.failing_advice-advice.ensures.value c.finding_over-finding.ensures;
+      words_after = c.clear.ensures
           ∙ ap (λ (k : ℕ). replicate k 0)
-          (c.finding_over-finding.auto.words ∙ c.failing_advice-advice.auto.words ∙ c.lay_first.auto.words) }
+          (c.finding_over-finding.auto.words ∙ c.failing_advice-advice.auto.words ∙ c.lay_first.auto.words);
+    }

@@ -1,7 +1,7 @@
 -- `checker::failing::failing_advice` meets its contract. The loop's invariant: the byte has the bits of the clauses so far.
 use mathlib.Core.Path.{◌≡◌, refl, ap, ◌∙◌}
 use native.Mathlib.Omega.{arith}
-use Prim.Native.Nat.{ℕ, ◌-◌}
+use Prim.Native.Nat.{ℕ}
 use Rattle.semantics.specs.Clause as clause
 use Rattle.rows.specs.Row.{word}
 use Rattle.rows.proofs.Rows.{word_unset}
@@ -49,7 +49,7 @@ loop-number-preserved c =
       r.ensures.rows_long,
       omega (arith, less),
       elim c.if-found-lt-PLACES.branch [
-        then-found-lt-PLACES w ↦ w.advice-is ∙ advice_set l.number l.advice p (omega (arith, q.sounds.0.few, less)) l.invariant.5 (place.some w.if-found-lt-PLACES.true)
+        | then-found-lt-PLACES w ↦ w.advice-is ∙ advice_set l.number l.advice p (omega (arith, q.sounds.0.few, less)) l.invariant.5 (place.some w.if-found-lt-PLACES.true)
         | else-found-lt-PLACES w ↦ w.advice-is ∙ l.invariant.5 ∙ word_unset l.number p (place.none (omega (arith, w.if-found-lt-PLACES.false)))
       ],
     )

@@ -2,7 +2,6 @@
 use mathlib.Core.Path.{◌≡◌}
 use Prim.Native.Nat.{◌-◌, ◌≤◌}
 use lib.ListN.{length}
-use Rattle.semantics.specs.Clause as clause
 use Rattle.rows.specs.Row.{word}
 use Rattle.traces.specs.Columns.{trace_of}
 use Rattle.places.specs.Laid.{Laid}

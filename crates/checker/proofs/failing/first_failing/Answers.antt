@@ -1,8 +1,6 @@
 -- `checker::failing::first_failing` meets its contract.
 use mathlib.Core.Path.{refl, ◌∙◌}
 use native.Mathlib.Omega.{arith}
-use Prim.Native.Nat.{◌-◌}
-use mathlib.Core.Bool.{false}
 use Rattle.semantics.specs.Verdict.{fails_as}
 use Rattle.stored.specs.Clause.{role_of}
 use Rattle.traces.specs.Columns.{trace_of}
@@ -29,13 +27,17 @@ returns-then-place-lt-PLACES c =
     let l = c.loop-k in
     let a = c.args in
     let r = c.role_place-place in
-    let place = place_at a.nodes.now a.clauses.now l.k (role_of a.role) l.invariant.0 c.stored_at-d.ensures r.ensures.place_is in record { still_laid = relaid l.invariant.0 r.ensures.still_laid; rows_long = r.ensures.rows_long; failing_is = record {
-          below = c.loop-k-test.true;
-          before = l.invariant.5;
-          fails = place.some c.if-place-lt-PLACES.true;
-          least = place.least c.if-place-lt-PLACES.true;
-          found = c.if-place-lt-PLACES.true;
-        } }
+    let place = place_at a.nodes.now a.clauses.now l.k (role_of a.role) l.invariant.0 c.stored_at-d.ensures r.ensures.place_is in record {
+      still_laid = relaid l.invariant.0 r.ensures.still_laid;
+      rows_long = r.ensures.rows_long;
+      failing_is = record {
+        below = c.loop-k-test.true;
+        before = l.invariant.5;
+        fails = place.some c.if-place-lt-PLACES.true;
+        least = place.least c.if-place-lt-PLACES.true;
+        found = c.if-place-lt-PLACES.true;
+      };
+    }
 
 pub overflow_add-k : goal.overflow_add-k
 overflow_add-k c = omega (arith, c.requires.known_role.1.few, c.loop-k-test.true)

@@ -46,5 +46,5 @@ returns c =
     let accepted = sym c.read_sheet-sheet_answer.ensures ∙ c.in-Accepted.is in
     let r = c.node_table.ensures in
     let all =
-        table_whole a.sheet.now a.trace.now a.node a.p0 a.p1 a.p2 a.words.now _ _ accepted (sym c.read_trace-trace_answer.ensures ∙ c.in-Cycles.is) _ _ _ _ c.if-words-lt-LEAST_WORDS.false c.node_part-nodes.ensures c.columns-columns.ensures r.value r.words_after in
+    table_whole a.sheet.now a.trace.now a.node a.p0 a.p1 a.p2 a.words.now _ _ accepted (sym c.read_trace-trace_answer.ensures ∙ c.in-Cycles.is) _ _ _ _ c.if-words-lt-LEAST_WORDS.false c.node_part-nodes.ensures c.columns-columns.ensures r.value r.words_after in
     record { value = all.0; words_after = all.1 }

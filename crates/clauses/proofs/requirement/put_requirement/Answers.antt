@@ -1,9 +1,9 @@
 -- `clauses::requirement::put_requirement` meets its contract. The loop's invariant: the first k clauses are joined, by role.
-use Prim.Native.Nat.{◌-◌, ◌≤◌}
+use Prim.Native.Nat.{◌≤◌}
 use mathlib.Core.Path.{◌≡◌}
 use native.Mathlib.Omega.{arith}
 use Rattle.stored.specs.Node.{node_at}
-use Rattle.plans.specs.Emission.{count, Ready}
+use Rattle.plans.specs.Emission.{count}
 use Rattle.plans.proofs.Steps.{ready_kept}
 use Rattle.emission.proofs.Copied.{costs_most}
 use Rattle.clauses.proofs.Joining.{clauses_kept, joined_start, joined_next, joined_done}
@@ -33,7 +33,7 @@ loop-k-smaller c = omega arith
 pub loop-k-preserved : goal.loop-k-preserved
 loop-k-preserved c =
     let few : count c.copy_nodes-map.new.out ≤ 777 =
-        omega (arith, c.copy_nodes-map.ensures.0.few, costs_most (node_at c.args.nodes.now) c.args.n, c.requires.1, c.requires.2.few) in
+    omega (arith, c.copy_nodes-map.ensures.0.few, costs_most (node_at c.args.nodes.now) c.args.n, c.requires.1, c.requires.2.few) in
     let sheet = clauses_kept c.copy_nodes-map.ensures.0 c.requires.3 in (
       omega arith,
       joined_next _ _ _ _ _ (ready_kept c.copy_nodes-map.ensures.0 c.requires.0) few sheet c.copy_nodes-map.ensures.1 c.loop-k-test.true c.stored_at-d.ensures
@@ -49,7 +49,7 @@ bounds-sides-1 c = omega (arith, c.loop-k.invariant.1.two)
 pub returns : goal.returns
 returns c =
     let few : count c.copy_nodes-map.new.out ≤ 777 =
-        omega (arith, c.copy_nodes-map.ensures.0.few, costs_most (node_at c.args.nodes.now) c.args.n, c.requires.1, c.requires.2.few) in
+    omega (arith, c.copy_nodes-map.ensures.0.few, costs_most (node_at c.args.nodes.now) c.args.n, c.requires.1, c.requires.2.few) in
     let full : c.loop-k.k ≡ c.args.c = omega (arith, c.loop-k-test.false, c.loop-k.invariant.0) in
     joined_done _ _ _ _ _ full c.requires.3.few c.copy_nodes-map.ensures.0 few c.loop-k.invariant.1
     c.put_not-kept.ensures c.put_or.ensures

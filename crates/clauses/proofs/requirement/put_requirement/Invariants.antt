@@ -2,9 +2,6 @@
 use Prim.Native.Nat.{◌-◌, ◌≤◌}
 use Rattle.clauses.specs.Clauses.{clauses_at}
 use Rattle.clauses.proofs.Joining.{Joined}
-use Rattle.clauses.proofs.requirement.put_requirement.Lts as lts
-use Rattle.clauses.proofs.requirement.put_requirement.Tie as tie
-use Rattle.clauses.proofs.requirement.put_requirement.Reads as reads
 use Rattle.clauses.proofs.requirement.put_requirement.Given as goal
 
 abbrev pub invariant-loop-k : goal.invariant-loop-k

@@ -1,5 +1,4 @@
 -- `emission::copy::copy_nodes` meets its contract. The loop's invariant: the first i nodes are copied, and the map has their copies.
-use Prim.Native.Nat.{◌-◌}
 use mathlib.Core.Path.{◌≡◌, refl, ap}
 use native.Mathlib.Omega.{arith}
 use lib.ListN.{length-set}

@@ -1,5 +1,4 @@
 -- `emission::shared::put_shared` meets its contract. The loop's invariant: the nodes of the first u names stand at their numbers.
-use Prim.Native.Nat.{◌-◌}
 use mathlib.Core.Path.{subst}
 use native.Mathlib.Omega.{arith}
 use Rattle.plans.specs.Emission.{Shared}

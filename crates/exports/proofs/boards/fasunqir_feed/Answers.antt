@@ -20,7 +20,7 @@ returns-in-Refused c =
     let a = c.args in
     let fed = c.feed-fed.ensures in
     let all =
-        feed_kept a.bytes.now a.cycles.now a.taken.now a.verdict.now a.cycle a.words.now _ _ fed.answer_value fed.words_after _ c.in-Refused.is in
+    feed_kept a.bytes.now a.cycles.now a.taken.now a.verdict.now a.cycle a.words.now _ _ fed.answer_value fed.words_after _ c.in-Refused.is in
     record { value = all.0; result_value = all.1.0; board_after = all.1.1.0; verdict_after = all.1.1.1.0; words_after = all.1.1.1.1 }
 
 pub returns-in-Checked : goal.returns-in-Checked
@@ -28,5 +28,5 @@ returns-in-Checked c =
     let a = c.args in
     let fed = c.feed-fed.ensures in
     let all =
-        feed_put a.bytes.now a.cycles.now a.taken.now a.verdict.now a.cycle a.words.now _ _ fed.answer_value fed.words_after _ _ _ c.in-Checked.is c.packed_verdict-number.ensures fed.board_value in
+    feed_put a.bytes.now a.cycles.now a.taken.now a.verdict.now a.cycle a.words.now _ _ fed.answer_value fed.words_after _ _ _ c.in-Checked.is c.packed_verdict-number.ensures fed.board_value in
     record { value = all.0; result_value = all.1.0; board_after = all.1.1.0; verdict_after = all.1.1.1.0; words_after = all.1.1.1.1 }

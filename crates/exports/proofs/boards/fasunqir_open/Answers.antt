@@ -12,12 +12,12 @@ pub returns-then-opened-ne0 : goal.returns-then-opened-ne0
 returns-then-opened-ne0 c =
     let a = c.args in
     let all =
-        open_kept a.sheet.now _ c.open-opened.ensures a.bytes.now a.cycles.now a.taken.now a.verdict.now c.if-opened-ne0.true in
+    open_kept a.sheet.now _ c.open-opened.ensures a.bytes.now a.cycles.now a.taken.now a.verdict.now c.if-opened-ne0.true in
     record { value = all.0; bytes_after = all.1.0; cycles_after = all.1.1.0; taken_after = all.1.1.1.0; verdict_after = all.1.1.1.1 }
 
 pub returns : goal.returns
 returns c =
     let a = c.args in
     let all =
-        open_put a.sheet.now _ c.open-opened.ensures a.bytes.now a.cycles.now a.taken.now a.verdict.now c.if-opened-ne0.false in
+    open_put a.sheet.now _ c.open-opened.ensures a.bytes.now a.cycles.now a.taken.now a.verdict.now c.if-opened-ne0.false in
     record { value = all.0; bytes_after = all.1.0; cycles_after = all.1.1.0; taken_after = all.1.1.1.0; verdict_after = all.1.1.1.1 }

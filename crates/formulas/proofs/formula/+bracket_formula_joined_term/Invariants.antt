@@ -1,16 +1,9 @@
 -- The cycle of calls {bracket, formula, joined, term}: pieces joined at a level are read by the level below it, single pieces by `term`, and
 -- a bracketed one by `bracket`, inside which there is a formula again, with one bracket fewer to open. The measure goes by the brackets
 -- left, then the level.
-use Prim.Native.Nat.{ℕ, ◌+◌, ◌*◌, ◌<◌}
-use mathlib.Core.Path.{refl}
-use native.Mathlib.Omega.{arith}
-use borrow.Author.Rules.{rules}
-use borrow.Author.Tests.{not-true, not-false}
+use Prim.Native.Nat.{◌+◌, ◌*◌}
 use Rattle.formulas.specs.Pieces.{about_level, has_level, put_level, Taken}
-use Rattle.propositions.proofs.Chains.{Turns, left, turns_start, turns_ready, turns_joinable, turns_again, turns_less, turns_end}
-use Rattle.formulas.proofs.Formulas.{level_zero, level_chain, formula_reads, term_piece, term_bracket, term_none, bracket_none, bracket_bare, star_puttable, bracket_star}
-use Rattle.formulas.proofs.Pieces.{word_ready}
-use Rattle.propositions.proofs.Went.{within_open}
+use Rattle.propositions.proofs.Chains.{Turns, left}
 use Rattle.formulas.proofs.formula.+bracket_formula_joined_term.Given as goal
 
 abbrev pub decreases-bracket : goal.decreases-bracket

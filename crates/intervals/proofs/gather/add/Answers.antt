@@ -7,7 +7,7 @@ use lib.Dec.{ltb}
 use lib.ListN.{length-set}
 use Rattle.rows.specs.Row.{word}
 use Rattle.tables.specs.Table.{standing, row_at}
-use Rattle.intervals.proofs.Gathered.{cut_row, added_none, added_turn, added_all, added_ends}
+use Rattle.intervals.proofs.Gathered.{added_none, added_turn, added_all, added_ends}
 use Rattle.intervals.proofs.gather.add.Goals as goal
 
 pub loop-b-init : goal.loop-b-init

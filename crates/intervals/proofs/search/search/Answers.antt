@@ -1,6 +1,5 @@
 -- `intervals::search::search` meets its contract.
-use Prim.Native.Nat.{◌-◌, ◌<◌}
-use mathlib.Core.Bool.{true}
+use Prim.Native.Nat.{◌<◌}
 use mathlib.Core.Path.{refl, sym, ◌∙◌}
 use native.Mathlib.Omega.{arith}
 use Rattle.intervals.specs.Rows.{type_of}

@@ -1,5 +1,4 @@
 -- `lexer::brackets::too_deep` meets its contract.
-use Prim.Native.Nat.{◌-◌}
 use mathlib.Core.Path.{refl, sym, ◌∙◌}
 use native.Mathlib.Omega.{arith}
 use Rattle.grammar.specs.Brackets.{too_deep}

@@ -1,8 +1,6 @@
 -- `lexer::spellings::word_match` meets its contract.
-use Prim.Native.Nat.{◌-◌}
 use mathlib.Core.Path.{refl, sym, ◌∙◌}
 use native.Mathlib.Omega.{arith}
-use borrow.Author.Tests.{not-true, not-false}
 use Rattle.lexer.proofs.Rows.{match_end, match_filled, match_fails, match_goes_on}
 use Rattle.lexer.proofs.spellings.word_match.Goals as goal
 

@@ -1,13 +1,6 @@
 -- `lines::lines::put_decimal` meets its contract.
-use Prim.Native.Nat.{ℕ, ◌<◌}
-use mathlib.Core.Path.{◌∙◌}
 use native.Mathlib.Omega.{arith}
-use lib.ListN.{length-set}
 use Rattle.lines.proofs.Texts.{decimal_length, decimal_some, put_size, put_one, put_last}
-use borrow.Author.Rules.{rules}
-use borrow.Fn.PlainCycle.{Measures, is, falls, and}
-use Rattle.lines.proofs.lines.+put_decimal.Lts-put_decimal as lts
-use Rattle.lines.proofs.lines.+put_decimal.Tie.{close}
 use Rattle.lines.proofs.lines.+put_decimal.Goals as goal
 
 pub bounds-out-at : goal.bounds-out-at

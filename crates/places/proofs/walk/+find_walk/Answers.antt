@@ -1,15 +1,11 @@
-use Prim.Native.Nat.{ℕ, ◌+◌, ◌-◌, ◌≤◌, ◌<◌}
-use mathlib.Core.Bool.{Bool, cond, ◌&&◌}
+use Prim.Native.Nat.{ℕ, ◌-◌, ◌<◌}
+use mathlib.Core.Bool.{Bool, ◌&&◌}
 use lib.Dec.{eqb}
-use mathlib.Core.Path.{◌≡◌, refl, sym, ap, ◌∙◌}
+use mathlib.Core.Path.{refl, sym, ap, ◌∙◌}
 use native.Mathlib.Omega.{arith}
-use borrow.Author.Rules.{rules}
-use borrow.Fn.PlainCycle.{Measures, is, falls, and}
 use lib.ListN.{length, get_or, replicate}
-use Rattle.semantics.specs.Cycles.{some_from}
-use Rattle.traces.specs.Columns.{trace_of}
 use Rattle.tables.specs.Table.{standing}
-use Rattle.places.specs.Laid.{Laid, Walked, low_of, last_of}
+use Rattle.places.specs.Laid.{low_of, last_of}
 use Rattle.places.proofs.Loops.{low_last, walked_none, walked_turn}
 use Rattle.places.proofs.Walks.{lay_placed, few_cycles, some_cycles, root_rows, walkable_again, walkable_next, walkable_within, find_none, find_closed, find_open, laid_own, relaid, readded, refound, rewalked, walked_unneeded, walked_answer, walked_find, next_over, walked_next, walked_level, places_above, next_below}
 use Rattle.places.proofs.walk.+find_walk.Goals as goal
@@ -190,6 +186,10 @@ walk-returns t c =
     let l = c.loop-t in
     let h = c.hopeless.ensures.laid in
     let named = c.has_name-moves.ensures in
-    let some = c.if-left-eq0.false in record { laid = relaid h l.invariant.0; rows_kept = l.invariant.3; walked = walked_level a.job a.nodes.now _ a.spot w.long (omega (arith, some)) w.three (some_cycles w)
-            (low ∙ ap (λ (x : Bool). low_of x at) named) (last ∙ ap (λ (x : Bool). last_of x a.job.n at) named) (omega (arith, l.invariant.5, c.loop-t-test.false))
-            (rewalked h a.job _ l.invariant.6) }
+    let some = c.if-left-eq0.false in record {
+      laid = relaid h l.invariant.0;
+      rows_kept = l.invariant.3;
+      walked = walked_level a.job a.nodes.now _ a.spot w.long (omega (arith, some)) w.three (some_cycles w)
+          (low ∙ ap (λ (x : Bool). low_of x at) named) (last ∙ ap (λ (x : Bool). last_of x a.job.n at) named) (omega (arith, l.invariant.5, c.loop-t-test.false))
+          (rewalked h a.job _ l.invariant.6);
+    }

@@ -20,7 +20,7 @@ invariant-walk-loop-t l =
     × (length l.columns ≡ length l.initial.columns) × (length l.words ≡ length l.initial.words) × (length l.rows ≡ 64)
     × (l.initial.t ≤ l.t) × (l.t ≤ l.last + 1)
     × Walked l.job l.nodes (trace_of l.job.n l.initial.columns) l.best l.least l.initial.rows l.rows
-        (λ q. some_from l.initial.t l.t (λ i. next_over l.job l.spot i q))
+    (λ q. some_from l.initial.t l.t (λ i. next_over l.job l.spot i q))
 
 abbrev pub decreases-walk-loop-t : goal.decreases-walk-loop-t
 decreases-walk-loop-t l = l.last + 1 - l.t

@@ -1,8 +1,7 @@
 -- `plans::node::put` meets its contract.
 use mathlib.Core.Path.{sym, ◌∙◌}
 use native.Mathlib.Omega.{arith}
-use Rattle.plans.specs.Plan.{node}
-use Rattle.plans.proofs.Steps.{Fits, fits_open, put_none, put_made}
+use Rattle.plans.proofs.Steps.{fits_open, put_none, put_made}
 use Rattle.plans.proofs.node.put.Goals as goal
 
 pub returns-then-not-fits : goal.returns-then-not-fits

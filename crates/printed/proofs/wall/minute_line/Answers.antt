@@ -25,9 +25,12 @@ returns c =
     let fed = c.feed-fed.ensures in
     let long = sym words.ensures ∙ sym (length-replicate {A = ℕ} least_words 0) in
     let enough = replicate {A = ℕ} least_words 0 in
-    let line = c.answer_line-line.ensures in record { board_value = fed.board_value ∙ next_over_lem a.board cycle.result words.result enough long ∙ ap (λ (w : ℕ). next_board a.board w enough) cycle.ensures.0; line_value = (
+    let line = c.answer_line-line.ensures in record {
+      board_value = fed.board_value ∙ next_over_lem a.board cycle.result words.result enough long ∙ ap (λ (w : ℕ). next_board a.board w enough) cycle.ensures.0;
+      line_value = (
         line.0
             ∙ ap (λ (x : Answer). line_of (line_text x))
             (fed.answer_value ∙ answer_over a.board cycle.result words.result enough long ∙ ap (λ (w : ℕ). feed_answer a.board w enough) cycle.ensures.0),
         line.1,
-      ) }
+      );
+    }

@@ -1,17 +1,11 @@
 -- The cycle of calls {atom, both, bracket, proposition, unit}: in round brackets a piece is a proposition again, with one bracket fewer to open.
-use Prim.Native.Nat.{ℕ, ◌+◌, ◌*◌, ◌<◌}
-use mathlib.Core.Path.{refl, ◌∙◌}
-use native.Mathlib.Omega.{arith}
-use borrow.Author.Rules.{rules}
-use borrow.Author.Tests.{not-true, not-false}
+use Prim.Native.Nat.{◌+◌, ◌*◌}
 use Rattle.grammar.specs.Token.{or_sign, and_sign}
 use Rattle.grammar.specs.Reader.{about_or_p, has_or_p}
 use Rattle.typed.specs.Draft.{put_or_p, put_and_p}
 use Rattle.propositions.specs.Propositions.{about_both, has_both, ByAnd}
-use Rattle.propositions.proofs.Chains.{Turns, left, turns_start, turns_again, turns_less, turns_ready, turns_joinable, turns_end}
-use Rattle.propositions.proofs.Propositions.{ByNone, or_chain, and_chain, unit_closes, whole_reads}
-use Rattle.propositions.proofs.Propositions.{bare_ready, negatable, negated_reads, single_piece, bracket_piece, bracket_reads}
-use Rattle.propositions.proofs.Went.{within_open, reads_none}
+use Rattle.propositions.proofs.Chains.{Turns, left}
+use Rattle.propositions.proofs.Propositions.{ByNone}
 use Rattle.propositions.proofs.proposition.+atom_both_bracket_proposition_unit.Given as goal
 
 -- five steps for each bracket that may be opened

@@ -1,5 +1,4 @@
 -- `pruning::keep::keep_marked` meets its contract. The loop's invariant: of the first i nodes the marked ones are kept.
-use Prim.Native.Nat.{◌-◌}
 use mathlib.Core.Path.{refl}
 use native.Mathlib.Omega.{arith}
 use lib.ListN.{length-set}

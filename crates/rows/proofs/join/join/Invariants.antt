@@ -1,6 +1,6 @@
 -- `rows::join::join` meets its contract.
 use mathlib.Core.Path.{◌≡◌}
-use Prim.Native.Nat.{◌-◌, ◌^◌, ◌<◌}
+use Prim.Native.Nat.{◌^◌, ◌<◌}
 use lib.ListN.{get_or}
 use lib.Bits.{bit_or}
 use Rattle.rows.specs.Row.{joined}

@@ -14,7 +14,7 @@ returns c =
     let rows : ℕ → ℕ = λ i. get_or a.second.now i 0 in
     let join = c.join.ensures in
     elim c.if-had-row.branch [
-      then-had-row w ↦ ap₂ bit_or (w.out-is ∙ c.requires.1) (join ∙ ap (λ (x : ℕ). joined x rows) w.left-is)
-        ∙ join_new a.row a.had rows w.if-had-row.true
+      | then-had-row w ↦ ap₂ bit_or (w.out-is ∙ c.requires.1) (join ∙ ap (λ (x : ℕ). joined x rows) w.left-is)
+          ∙ join_new a.row a.had rows w.if-had-row.true
       | else-had-row w ↦ ap₂ bit_or w.out-is (join ∙ ap (λ (x : ℕ). joined x rows) w.left-is)
     ]

@@ -1,10 +1,9 @@
 -- `stored::clauses::clauses_ok` meets its contract.
 use mathlib.Core.Path.{refl, ◌∙◌, ap}
 use native.Mathlib.Omega.{arith}
-use Prim.Native.Nat.{◌-◌}
 use Rattle.stored.specs.Bytes.{every_below}
 use Rattle.stored.proofs.Rules.{every_next, every_done}
-use Rattle.stored.specs.Clause.{stored_at, clause_right, clause_right_at}
+use Rattle.stored.specs.Clause.{clause_right, clause_right_at}
 use Rattle.stored.proofs.clauses.clauses_ok.Goals as goal
 
 pub loop-k-init : goal.loop-k-init

@@ -1,7 +1,7 @@
 -- `stored::masks::reach_table` meets its contract.
 use mathlib.Core.Path.{◌≡◌, refl, ◌∙◌, ap}
 use native.Mathlib.Omega.{arith}
-use Prim.Native.Nat.{ℕ, ◌-◌}
+use Prim.Native.Nat.{ℕ}
 use lib.ListN.{length-set}
 use Rattle.stored.proofs.Entries.{entries_none, entries_next, entries_all}
 use Rattle.stored.proofs.Reach.{table_next}

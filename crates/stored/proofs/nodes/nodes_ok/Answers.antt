@@ -1,10 +1,9 @@
 -- `stored::nodes::nodes_ok` meets its contract.
 use mathlib.Core.Path.{refl, ◌∙◌, ap}
 use native.Mathlib.Omega.{arith}
-use Prim.Native.Nat.{◌-◌}
 use Rattle.stored.specs.Bytes.{every_below}
 use Rattle.stored.proofs.Rules.{every_next, every_done}
-use Rattle.stored.specs.Node.{node_at, requirement_sorts, fields_right, node_right}
+use Rattle.stored.specs.Node.{requirement_sorts, fields_right, node_right}
 use Rattle.stored.proofs.nodes.nodes_ok.Goals as goal
 
 pub loop-i-init : goal.loop-i-init

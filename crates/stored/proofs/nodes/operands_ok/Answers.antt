@@ -1,7 +1,6 @@
 -- `stored::nodes::operands_ok` meets its contract.
 use mathlib.Core.Path.{refl}
 use native.Mathlib.Omega.{arith}
-use Prim.Native.Nat.{◌-◌}
 use Rattle.stored.specs.Bytes.{every_below}
 use Rattle.stored.proofs.Rules.{every_next, every_done}
 use Rattle.stored.proofs.nodes.operands_ok.Goals as goal

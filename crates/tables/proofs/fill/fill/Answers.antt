@@ -1,7 +1,6 @@
 -- `tables::fill::fill` meets its contract.
 use mathlib.Core.Path.{refl}
 use native.Mathlib.Omega.{arith}
-use Prim.Native.Nat.{◌-◌}
 use borrow.Author.Tests.{eq-eqb}
 use Rattle.stored.specs.Reach.{joint, entry_of}
 use Rattle.tables.specs.Ready.{apart}
@@ -39,10 +38,10 @@ loop-i-preserved c =
     let a = c.args in
     let few = c.requires.given.0.few_cycles in
     elim c.if-reach-i-ne0.branch [
-      then-reach-i-ne0 w ↦ sofar_turn few at.i a.words.now at.words _ c.if-reach-i-ne0.words w.words-is w.put_node.auto.words at.invariant.0
-        w.put_node.ensures at.invariant.1
+      | then-reach-i-ne0 w ↦ sofar_turn few at.i a.words.now at.words _ c.if-reach-i-ne0.words w.words-is w.put_node.auto.words at.invariant.0
+          w.put_node.ensures at.invariant.1
       | else-reach-i-ne0 w ↦ sofar_pass few at.i a.words.now at.words c.if-reach-i-ne0.words w.words-is at.invariant.0 c.loop-i-test.true
-        (eq-eqb _ _ w.if-reach-i-ne0.false) at.invariant.1
+          (eq-eqb _ _ w.if-reach-i-ne0.false) at.invariant.1
     ]
 
 pub returns : goal.returns

@@ -1,6 +1,6 @@
 -- `tables::fill::put_star` meets its contract.
 use mathlib.Core.Path.{◌≡◌}
-use Prim.Native.Nat.{◌-◌, ◌≤◌}
+use Prim.Native.Nat.{◌≤◌}
 use lib.ListN.{length}
 use Rattle.rows.specs.Row.{joined}
 use Rattle.traces.specs.Columns.{trace_of, marks_of}

@@ -1,7 +1,7 @@
 -- `tables::words::clear_rows` meets its contract.
 use mathlib.Core.Path.{◌≡◌, refl, subst, ◌∙◌}
 use native.Mathlib.Omega.{arith}
-use Prim.Native.Nat.{ℕ, ◌-◌}
+use Prim.Native.Nat.{ℕ}
 use lib.ListN.{length-set}
 use Rattle.tables.specs.Step.{Cleared}
 use Rattle.tables.proofs.Fills.{cleared_more}

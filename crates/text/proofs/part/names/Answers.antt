@@ -1,5 +1,4 @@
 -- `text::part::names` meets its contract.
-use Prim.Native.Nat.{◌-◌}
 use native.Mathlib.Omega.{arith}
 use borrow.Author.Tests.{not-true, not-false}
 use Rattle.text.proofs.Parts.{no_names_lem, one_more, twice, names_read, twice_read}

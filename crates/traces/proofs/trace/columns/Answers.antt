@@ -1,7 +1,7 @@
 -- `traces::trace::columns` meets its contract.
 use mathlib.Core.Path.{◌≡◌, refl, ◌∙◌, ap}
 use native.Mathlib.Omega.{arith}
-use Prim.Native.Nat.{ℕ, ◌-◌}
+use Prim.Native.Nat.{ℕ}
 use lib.ListN.{length-set}
 use Rattle.stored.specs.Tree.{earlier}
 use Rattle.traces.specs.Columns.{signal_column, columns_of}

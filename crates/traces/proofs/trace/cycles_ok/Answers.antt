@@ -1,7 +1,7 @@
 -- `traces::trace::cycles_ok` meets its contract.
 use mathlib.Core.Path.{refl, ◌∙◌, ap}
 use native.Mathlib.Omega.{arith}
-use Prim.Native.Nat.{ℕ, ◌-◌, ◌^◌}
+use Prim.Native.Nat.{ℕ, ◌^◌}
 use Rattle.stored.specs.Bytes.{every_below}
 use Rattle.stored.proofs.Rules.{every_next, every_done}
 use lib.Dec.{ltb}

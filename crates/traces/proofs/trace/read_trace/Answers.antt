@@ -1,7 +1,7 @@
 -- `traces::trace::read_trace` meets its contract.
 use mathlib.Core.Path.{◌≡◌, sym, ◌∙◌}
 use native.Mathlib.Omega.{arith}
-use borrow.Author.Tests.{eq-eqb, ne_eqb, le-leb, lt-leb, not-true, not-false}
+use borrow.Author.Tests.{eq-eqb, ne_eqb, le-leb, lt-leb}
 use mathlib.Core.Bool.{true}
 use Rattle.traces.specs.Trace.{cycle_count, trace_framed, trace_versioned, same_signals, cycles_right}
 use Rattle.traces.proofs.Answer.{TraceHeaded, trace_framed_long, refused10, refused11, refused12, refused13, trace_accepted}

@@ -1,7 +1,7 @@
 -- `traces::trace::signal_column` meets its contract.
 use mathlib.Core.Path.{◌≡◌, sym, ◌∙◌, ap, ap₂}
 use native.Mathlib.Omega.{arith}
-use Prim.Native.Nat.{ℕ, ◌-◌}
+use Prim.Native.Nat.{ℕ}
 use lib.Bits.{bit_or}
 use Rattle.semantics.specs.Proposition.{bit}
 use Rattle.traces.specs.Columns.{signal_column}
@@ -19,8 +19,8 @@ loop-t-preserved c =
     let value = ap (λ (z : ℕ). bit z a.k) (sym c.cycle_at-signals.ensures.0) ∙ sym c.has.ensures in (
       omega arith,
       elim c.if-has.branch [
-        then-has w ↦ w.out-is ∙ ap₂ bit_or at.invariant.1 w.only-out.ensures
-          ∙ signal_set a.trace.now at.t a.k (omega arith) (value ∙ w.if-has.true)
+        | then-has w ↦ w.out-is ∙ ap₂ bit_or at.invariant.1 w.only-out.ensures
+            ∙ signal_set a.trace.now at.t a.k (omega arith) (value ∙ w.if-has.true)
         | else-has w ↦ w.out-is ∙ at.invariant.1 ∙ signal_unset a.trace.now at.t a.k (value ∙ w.if-has.false)
       ],
     )
