@@ -1,9 +1,6 @@
 -- The numbers in the tree of a text are those that tokens carry: signals below 16, names below 3, others at most 65,535.
-use Prim.Native.Nat.{ℕ}
-use mathlib.Core.Bool.{Bool, true, ◌&&◌, and_assoc}
-use mathlib.Core.List.{List, [], ◌∷◌}
-use mathlib.Core.Path.{◌≡◌, refl, sym, ap, ◌∙◌}
-use lib.Dec.{leb, ltb}
+use Rattle.std.proofs.Common.{ℕ, Bool, true, ◌&&◌, List, [], ◌∷◌, ◌≡◌, refl, sym, ap, ◌∙◌, leb, ltb}
+use mathlib.Core.Bool.{and_assoc}
 use Rattle.grammar.specs.Token.{Token, plain, line_end, close_round, comma_sign, colon_sign, star_sign, close_square, close_squares, close_braces, comparison_sign}
 use Rattle.semantics.specs.Formula.{above}
 use Rattle.grammar.specs.Tree.{OrP, one_p, or_p, AndP, unit_p, and_p, UnitP, trueP, falseP, signalP, nameP, not_p, bracket_p, OrF, one_f, or_f, AndF, chain_f, and_f, ChopF, unit_f, chop_f, UnitF, pointF, stretchF, wholeF, braceF, slen_f, scountF, sdurF, draw_f, at_f, gap_f, bracketF, starF, TypedPart, TypedClause, pref_c, anti_c, init_c, implies_c, follows_c, triggers_c, Line, assume_l, require_l, TypedSheet}

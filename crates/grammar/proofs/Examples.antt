@@ -1,10 +1,6 @@
 -- Texts read by the definitions.
-use Prim.Native.Nat.{ℕ}
-use mathlib.Core.Bool.{true, false}
-use mathlib.Core.List.{List, [], ◌∷◌}
+use Rattle.std.proofs.Common.{ℕ, true, false, List, [], ◌∷◌, ◌≡◌, refl, replicate}
 use mathlib.Core.Option.{none, some}
-use mathlib.Core.Path.{◌≡◌, refl}
-use lib.ListN.{replicate}
 use Rattle.semantics.specs.Formula.{at_most}
 use Rattle.grammar.specs.Token.{is_blank, is_digit, begins, spelling_of, digits, number_from, numbered, tokens_past, tokens}
 use Rattle.grammar.specs.Tree.{one_p, unit_p, and_p, signalP, nameP, not_p, OrF, one_f, or_f, chain_f, unit_f, chop_f, pointF, stretchF, slen_f, starF, pref_c, require_l, TypedSheet}

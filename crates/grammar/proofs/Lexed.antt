@@ -1,13 +1,6 @@
 -- Of the tokens of a text: which round brackets they have, and which numbers.
-use Prim.Native.Nat.{ℕ, zero, suc, ◌-◌}
-use native.Mathlib.Omega.{arith}
-use mathlib.Core.Bool.{Bool, true, false, not, cond, ◌&&◌, ◌||◌}
-use mathlib.Core.List.{List, [], ◌∷◌}
-use mathlib.Core.Logic.{inl, inr}
-use mathlib.Core.Path.{◌≡◌, refl, sym, ap, ◌∙◌}
-use lib.Dec.{leb, ltb, eqb}
-use lib.ListN.{length}
-use borrow.Author.Tests.{eqb-true, ne_eqb, leb-true, not-true}
+use Rattle.std.proofs.Common.{ℕ, zero, suc, ◌-◌, arith, Bool, true, false, not, cond, ◌&&◌, ◌||◌, List, [], ◌∷◌, inl, inr, ◌≡◌, refl, sym, ap, ◌∙◌, leb, ltb, eqb, length, eqb-true, ne_eqb, leb-true}
+use borrow.Author.Tests.{not-true}
 use Rattle.semantics.proofs.Tests.{both, and_left, and_right, or_elim, false_not}
 use Rattle.grammar.specs.Token.{Token, plain, signalled, named, number, outside, open_round, close_round, Spelling, spelt, spellings, is_blank, is_digit, begins, spelling_of, digits, number_from, numbered, tokens_past, tokens}
 use Rattle.grammar.specs.Brackets.{open_after, deeper, too_deep}

@@ -1,10 +1,7 @@
 -- Lists of names of which none stands twice, taken one name longer.
-use Prim.Native.Nat.{ℕ}
-use mathlib.Core.Bool.{true, false, not, ◌||◌, or_assoc}
-use mathlib.Core.List.{List, [], ◌∷◌, ◌++◌}
-use mathlib.Core.Path.{◌≡◌, refl, sym, ap, ◌∙◌}
-use lib.Dec.{eqb}
-use borrow.Author.Tests.{eqb-false, ne_eqb, not-true}
+use Rattle.std.proofs.Common.{ℕ, true, false, not, ◌||◌, List, [], ◌∷◌, ◌++◌, ◌≡◌, refl, sym, ap, ◌∙◌, eqb, ne_eqb}
+use mathlib.Core.Bool.{or_assoc}
+use borrow.Author.Tests.{eqb-false, not-true}
 use Rattle.semantics.proofs.Tests.{and_intro, and_left, and_right}
 use Rattle.grammar.proofs.Tests.{or_false_left, or_false_right, or_both_false}
 use Rattle.grammar.specs.Spelled.{is_among, none_twice}

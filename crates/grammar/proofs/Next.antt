@@ -1,9 +1,5 @@
 -- Single steps of the reader in any room: a bracket, joiners, and what cannot come next.
-use Prim.Native.Nat.{ℕ, suc}
-use mathlib.Core.Bool.{false}
-use mathlib.Core.List.{List, ◌∷◌}
-use mathlib.Core.Path.{◌≡◌, refl, ap}
-use lib.Dec.{eqb}
+use Rattle.std.proofs.Common.{ℕ, suc, false, List, ◌∷◌, ◌≡◌, refl, ap, eqb}
 use Rattle.semantics.specs.Formula.{Comparison, below, at_most, equal, at_least, above}
 use Rattle.grammar.specs.Token.{Token, plain, comparison_sign, open_round, true_word, false_word, not_sign, or_sign, and_sign, chop_sign, star_sign}
 use Rattle.grammar.specs.Tree.{OrP, AndP, OrF, AndF, ChopF, bracketF, starF}

@@ -1,10 +1,6 @@
 -- The reader reads each text of the grammar as the tree that it says, and no other text; so a text says one tree at most.
-use Prim.Native.Nat.{ℕ}
-use native.Mathlib.Omega.{arith}
-use mathlib.Core.Bool.{true, false}
-use mathlib.Core.List.{List}
+use Rattle.std.proofs.Common.{ℕ, arith, true, false, List, ◌≡◌, sym, ap, ◌∙◌}
 use mathlib.Core.Option.{none, some, some-injective, none-ne-some}
-use mathlib.Core.Path.{◌≡◌, sym, ap, ◌∙◌}
 use Rattle.grammar.specs.Token.{tokens}
 use Rattle.grammar.specs.Tree.{TypedSheet}
 use Rattle.grammar.specs.Spelled.{ends_line, Says}

@@ -1,11 +1,7 @@
 -- What is read was said: each state of the reader stands for the tokens read so far, and a step adds its token to them.
-use Prim.Native.Nat.{ℕ}
-use mathlib.Core.Bool.{Bool, true, false, cond, ◌&&◌}
-use mathlib.Core.List.{List, [], ◌∷◌, ◌++◌, append-nil}
+use Rattle.std.proofs.Common.{ℕ, Bool, true, false, cond, ◌&&◌, List, [], ◌∷◌, ◌++◌, append-nil, ◌≡◌, refl, sym, ap, ◌∙◌, subst, eqb, eqb-true}
 use mathlib.Core.Option.{some, none-ne-some, some-injective}
-use mathlib.Core.Path.{◌≡◌, refl, sym, ap, ◌∙◌, subst, fun_ext}
-use lib.Dec.{eqb}
-use borrow.Author.Tests.{eqb-true}
+use mathlib.Core.Path.{fun_ext}
 use Rattle.semantics.specs.Formula.{Comparison, below, at_most, equal, at_least, above}
 use Rattle.semantics.proofs.Tests.{and_left, and_right, both}
 use Rattle.grammar.specs.Token.{Token, plain, signalled, named, number, outside, line_end, assume_word, require_word, open_round, close_round, or_sign, and_sign, chop_sign, not_sign, star_sign, comparison_sign, open_square, open_squares, open_braces, slen_word, scount_word, sdur_word, draw_word, at_word, gap_word, true_word, false_word, type_word, colon_sign, comma_sign}

@@ -1,13 +1,6 @@
 -- The reader with bounded room reads as the one without a bound where the tokens leave it room, and reads nothing else at all.
-use Prim.Native.Nat.{ℕ, zero, suc, ◌+◌, ◌-◌, ◌≤◌}
-use native.Mathlib.Omega.{arith}
-use mathlib.Core.Bool.{Bool, true, false, cond}
-use mathlib.Core.List.{List, [], ◌∷◌}
-use mathlib.Core.Logic.{◌⊎◌, inl, inr}
+use Rattle.std.proofs.Common.{ℕ, zero, suc, ◌+◌, ◌-◌, ◌≤◌, arith, Bool, true, false, cond, List, [], ◌∷◌, ◌⊎◌, inl, inr, ◌≡◌, refl, sym, ap, ◌∙◌, ltb, eqb, ltb-false}
 use mathlib.Core.Option.{none, some, none-ne-some}
-use mathlib.Core.Path.{◌≡◌, refl, sym, ap, ◌∙◌}
-use lib.Dec.{ltb, eqb}
-use borrow.Author.Tests.{ltb-false}
 use Rattle.grammar.specs.Token.{Token, plain, signalled, named, number, outside, open_round, close_round}
 use Rattle.grammar.specs.Tree.{TypedSheet}
 use Rattle.grammar.specs.Reader.{State, failed, if_plain, step, read, one_less, room_after, if_room, step_in, run, answer}

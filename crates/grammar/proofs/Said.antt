@@ -1,8 +1,5 @@
 -- What is said is read: over the tokens of a tree the reader comes from "about to read it" to "has read it".
-use Prim.Native.Nat.{ℕ, zero, suc}
-use mathlib.Core.Bool.{true, cond, ◌&&◌}
-use mathlib.Core.List.{List, [], ◌∷◌, ◌++◌, append-nil, append_assoc}
-use mathlib.Core.Path.{◌≡◌, refl, sym, ap, ◌∙◌}
+use Rattle.std.proofs.Common.{ℕ, zero, suc, true, cond, ◌&&◌, List, [], ◌∷◌, ◌++◌, append-nil, append_assoc, ◌≡◌, refl, sym, ap, ◌∙◌}
 use mathlib.Core.Option.{some}
 use Rattle.semantics.proofs.Tests.{and_left, and_right}
 use Rattle.semantics.specs.Formula.{Comparison, below, at_most, equal, at_least, above}

@@ -1,10 +1,5 @@
 -- The classes of bytes in order, and the table of all 256.
-use Prim.Native.Nat.{ℕ, zero, suc, ◌+◌, ◌<◌}
-use mathlib.Core.Bool.{Bool, cond}
-use mathlib.Core.List.{List, [], ◌∷◌, ◌++◌}
-use mathlib.Core.Path.{◌≡◌, refl, ap, ◌∙◌}
-use native.Mathlib.Omega.{arith}
-use lib.ListN.{length, get_or}
+use Rattle.std.proofs.Common.{ℕ, zero, suc, ◌+◌, ◌<◌, Bool, cond, List, [], ◌∷◌, ◌++◌, ◌≡◌, refl, ap, ◌∙◌, arith, length, get_or}
 use Rattle.grammar.specs.Spelled.{is_among}
 use Rattle.grammar.specs.Token.{is_blank, is_digit, is_line_end}
 use Rattle.grammar.specs.Class.{letter_class, digit_class, blank_class, bracket_class, joiner_class, line_end_class, other_class, bytes_from, bytes_of, is_letter, is_bracket, is_joiner, class_of, classes_from, class_table}

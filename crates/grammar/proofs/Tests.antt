@@ -1,6 +1,5 @@
 -- Laws of Bool: where neither of two tests passes.
-use mathlib.Core.Bool.{Bool, true, false, ◌||◌}
-use mathlib.Core.Path.{◌≡◌, refl}
+use Rattle.std.proofs.Common.{Bool, true, false, ◌||◌, ◌≡◌, refl}
 use Rattle.semantics.proofs.Tests.{or_right, is_false, false_not}
 
 pub or_false_left : (a b : Bool) → a || b ≡ false → a ≡ false

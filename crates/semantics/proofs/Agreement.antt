@@ -1,11 +1,6 @@
 -- Agreement: the formula of a requirement is true of a trace exactly when the requirement is, for every list of clauses whose parts reach only
 -- names of their sets, and every trace of at least one cycle.
-use Prim.Native.Nat.{ℕ, suc, ◌-◌, ◌≤◌, ◌<◌}
-use native.Mathlib.Omega.{arith}
-use mathlib.Core.Bool.{Bool, true, false, not, cond, ◌&&◌, ◌||◌}
-use mathlib.Core.List.{List, [], ◌∷◌}
-use mathlib.Core.Path.{◌≡◌, refl, sym, ap, ◌∙◌}
-use lib.ListN.{length}
+use Rattle.std.proofs.Common.{ℕ, suc, ◌-◌, ◌≤◌, ◌<◌, arith, Bool, true, false, not, cond, ◌&&◌, ◌||◌, List, [], ◌∷◌, ◌≡◌, refl, sym, ap, ◌∙◌, length}
 use Rattle.semantics.specs.Cycles.{some_in}
 use Rattle.semantics.specs.Proposition.{Trace, Marks}
 use Rattle.semantics.specs.Formula.{Formula, disjunction, unmarked, true_of}

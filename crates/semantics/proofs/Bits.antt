@@ -1,10 +1,5 @@
 -- The bits of a number, lowest first.
-use Prim.Native.Nat.{ℕ, suc, ◌+◌, ◌*◌, ◌/◌, ◌%◌, ◌^◌}
-use native.Mathlib.Omega.{arith}
-use mathlib.Core.Bool.{Bool, true, false, cond}
-use mathlib.Core.Path.{◌≡◌, sym, ap, ◌∙◌}
-use lib.Dec.{eqb}
-use lib.Pow.{shr-shr}
+use Rattle.std.proofs.Common.{ℕ, suc, ◌+◌, ◌*◌, ◌/◌, ◌%◌, ◌^◌, arith, Bool, true, false, cond, ◌≡◌, sym, ap, ◌∙◌, eqb, shr-shr}
 use Rattle.semantics.specs.Proposition.{bit}
 
 pub bit_shr : (x j k : ℕ) → bit (x / 2 ^ j) k ≡ bit x (j + k)

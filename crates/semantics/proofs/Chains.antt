@@ -1,10 +1,5 @@
 -- Document 01's star unrolled: a chain is empty, or has a first link.
-use Prim.Native.Nat.{ℕ, zero, suc, ◌+◌, ◌-◌, ◌≤◌}
-use mathlib.Core.Bool.{Bool, ◌&&◌, ◌||◌}
-use mathlib.Core.Logic.{inl, inr}
-use mathlib.Core.Path.{◌≡◌, refl, sym, ap, ◌∙◌}
-use native.Mathlib.Omega.{arith}
-use lib.Dec.{eqb}
+use Rattle.std.proofs.Common.{ℕ, zero, suc, ◌+◌, ◌-◌, ◌≤◌, Bool, ◌&&◌, ◌||◌, inl, inr, ◌≡◌, refl, sym, ap, ◌∙◌, arith, eqb}
 use Rattle.semantics.specs.Cycles.{some_in}
 use Rattle.semantics.specs.Formula.{chain}
 use Rattle.semantics.proofs.Tests.{same, or_left, or_elim}

@@ -1,8 +1,6 @@
 -- What may change as minutes are added (request 7), of the meanings, as in examples/clocks and examples/withdrawn: an earlier place and an
 -- earlier clause are named, and a Broken requirement becomes Excused.
-use Prim.Native.Nat.{ℕ}
-use mathlib.Core.List.{List, [], ◌∷◌, ◌++◌}
-use mathlib.Core.Path.{◌≡◌, refl}
+use Rattle.std.proofs.Common.{ℕ, List, [], ◌∷◌, ◌++◌, ◌≡◌, refl}
 use Rattle.semantics.specs.Cycles.{some_below, some_from, first_below, count_below, count_from}
 use Rattle.semantics.specs.Proposition.{Trace, signal, bit, signal_at, holds_at}
 use Rattle.semantics.specs.Formula.{Formula, holds, compared, point, conjunction, disjunction, slen, scount, equal, at_least}

@@ -1,12 +1,6 @@
 -- In the formula of clauses that fit, each name stands under its quantifier.
-use Prim.Native.Nat.{ℕ, zero, suc, ◌<◌}
-use mathlib.Core.Bool.{Bool, true, false, cond, ◌&&◌, ◌||◌, false≢true}
-use mathlib.Core.List.{List, [], ◌∷◌}
-use mathlib.Core.Logic.{inl, inr}
-use mathlib.Core.Path.{◌≡◌, refl, sym, ◌∙◌}
-use native.Mathlib.Omega.{arith}
-use borrow.Author.Tests.{ltb-true, lt-ltb, eq-eqb}
-use lib.Dec.{ltb, eqb}
+use Rattle.std.proofs.Common.{ℕ, zero, suc, ◌<◌, Bool, true, false, cond, ◌&&◌, ◌||◌, List, [], ◌∷◌, inl, inr, ◌≡◌, refl, sym, ◌∙◌, arith, ltb-true, lt-ltb, eq-eqb, ltb, eqb}
+use mathlib.Core.Bool.{false≢true}
 use Rattle.semantics.specs.Proposition.{Proposition, never, always, signal, name, negated, both_of, either_of}
 use Rattle.semantics.specs.Formula.{Formula, point, stretch, whole, unit, chop, conjunction, disjunction, star, slen, scount, sdur, drawn, at, gap, negation, for_some, equal, Symbol, low, high, either, low_stretch, high_stretch, either_stretch, steady}
 use Rattle.semantics.specs.Placement.{Names, no_names, union, without, listed}

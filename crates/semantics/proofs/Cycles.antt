@@ -1,14 +1,6 @@
 -- Laws of the tests over cycles and over columns: from a witness, to a witness, and by agreement of the tests.
-use Prim.Native.Nat.{ℕ, zero, suc, ◌+◌, ◌≤◌, ◌<◌}
-use native.Mathlib.Omega.{arith}
-use native.Mathlib.Nat.{le_of_suc-le-suc, not-suc-le-zero, eq-or-lt_of_le}
-use mathlib.Core.Bool.{Bool, true, false, not, cond, ◌&&◌, ◌||◌, false≢true}
-use mathlib.Core.List.{List, [], ◌∷◌}
-use mathlib.Core.Logic.{◌⊎◌, inl, inr}
-use mathlib.Core.Path.{◌≡◌, refl, sym, ap, ap₂, subst, ◌∙◌}
-use lib.Dec.{leb}
-use lib.ListN.{get_or}
-use borrow.Author.Tests.{leb-true, le-leb}
+use Rattle.std.proofs.Common.{ℕ, zero, suc, ◌+◌, ◌≤◌, ◌<◌, arith, le_of_suc-le-suc, not-suc-le-zero, eq-or-lt_of_le, Bool, true, false, not, cond, ◌&&◌, ◌||◌, List, [], ◌∷◌, ◌⊎◌, inl, inr, ◌≡◌, refl, sym, ap, ap₂, subst, ◌∙◌, leb, get_or, leb-true, le-leb}
+use mathlib.Core.Bool.{false≢true}
 use Rattle.semantics.specs.Cycles.{some_below, some_from, count_below, count_from, first_below, some_column}
 use Rattle.semantics.proofs.Tests.{same, and_intro, and_left, and_right, or_left, or_right, or_elim, is_false, false_not}
 

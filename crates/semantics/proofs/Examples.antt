@@ -1,7 +1,5 @@
 -- Document 01, "Proved examples": E1–E10, of the meanings.
-use mathlib.Core.Bool.{true, false}
-use mathlib.Core.List.{[], ◌∷◌}
-use mathlib.Core.Path.{◌≡◌, refl}
+use Rattle.std.proofs.Common.{true, false, [], ◌∷◌, ◌≡◌, refl}
 use Rattle.semantics.specs.Cycles.{some_below, some_from, count_below, count_from}
 use Rattle.semantics.specs.Proposition.{Trace, signal, negated, both_of, bit, signal_at, holds_at}
 use Rattle.semantics.specs.Formula.{holds, unmarked, compared, chain, drawn_on, stretch, whole, unit, chop, star, scount, sdur, drawn, equal, low, high_stretch}

@@ -1,11 +1,6 @@
 -- What the formulas of a translation hold on, one operator at a time.
-use Prim.Native.Nat.{ℕ, suc, ◌-◌, ◌≤◌, ◌<◌}
-use native.Mathlib.Omega.{arith}
-use mathlib.Core.Bool.{Bool, true, false, not, ◌&&◌, ◌||◌}
-use mathlib.Core.Path.{◌≡◌, refl, ap, ap₂, ◌∙◌}
-use lib.Dec.{ltb, leb-zero, leb-suc-zero}
-use lib.ListN.{length}
-use borrow.Author.Tests.{ltb-true, lt-ltb}
+use Rattle.std.proofs.Common.{ℕ, suc, ◌-◌, ◌≤◌, ◌<◌, arith, Bool, true, false, not, ◌&&◌, ◌||◌, ◌≡◌, refl, ap, ap₂, ◌∙◌, ltb, length, ltb-true, lt-ltb}
+use lib.Dec.{leb-zero, leb-suc-zero}
 use Rattle.semantics.specs.Cycles.{some_from, some_in}
 use Rattle.semantics.specs.Proposition.{Trace, Marks}
 use Rattle.semantics.specs.Formula.{Formula, chop, conjunction, disjunction, negation, compared, holds}

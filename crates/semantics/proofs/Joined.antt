@@ -1,11 +1,6 @@
 -- Two parts that share names: one placement of all their names over some wider interval [low,m], each name inside the interval of the first
 -- part that lists it, is the same as a placement of the first part's names and then one of the names that the other has besides.
-use Prim.Native.Nat.{ℕ, ◌≤◌, ◌<◌}
-use native.Mathlib.Omega.{arith}
-use mathlib.Core.Bool.{Bool, true, false, cond, ◌&&◌}
-use mathlib.Core.Logic.{inl, inr}
-use mathlib.Core.Path.{◌≡◌, refl, sym, ap, ◌∙◌}
-use lib.ListN.{length}
+use Rattle.std.proofs.Common.{ℕ, ◌≤◌, ◌<◌, arith, Bool, true, false, cond, ◌&&◌, inl, inr, ◌≡◌, refl, sym, ap, ◌∙◌, length}
 use Rattle.semantics.specs.Proposition.{Trace}
 use Rattle.semantics.specs.Placement.{Names, union, without, listed, Placement, unplaced, marks, some_placement}
 use Rattle.semantics.specs.Inside.{inside}

@@ -1,14 +1,7 @@
 -- What lasts of a verdict as cycles are added (request 7): a clause's first place never moves later, Broken stays Broken or becomes Excused,
 -- Excused stays Excused, and no bit of advice is taken back. Then the same of the requirement.
-use Prim.Native.Nat.{ℕ, zero, suc, ◌≤◌, ◌<◌}
-use native.Mathlib.Omega.{arith}
-use mathlib.Core.Bool.{Bool, true, false, not, cond, ◌&&◌, ◌||◌, true≢false, false≢true}
-use mathlib.Core.List.{List, [], ◌∷◌, ◌++◌}
-use mathlib.Core.Logic.{inl, inr}
-use mathlib.Core.Path.{◌≡◌, refl, sym, ◌∙◌}
-use lib.Dec.{ltb, eqb}
-use lib.ListN.{length}
-use borrow.Author.Tests.{ltb-false, le-leb, eq-eqb}
+use Rattle.std.proofs.Common.{ℕ, zero, suc, ◌≤◌, ◌<◌, arith, Bool, true, false, not, cond, ◌&&◌, ◌||◌, true≢false, List, [], ◌∷◌, ◌++◌, inl, inr, ◌≡◌, refl, sym, ◌∙◌, ltb, eqb, length, ltb-false, le-leb, eq-eqb}
+use mathlib.Core.Bool.{false≢true}
 use Rattle.semantics.specs.Proposition.{Trace, bit}
 use Rattle.semantics.specs.Clause.{Role, assumption_role, commitment, advice, Clause, breaks, fails}
 use Rattle.semantics.specs.Verdict.{has_role, fails_as, some_fails, requirement, Place, Finding, Excused, Broken, Holds, first_place, excused_or, broken_or, finding_of, advice_of, verdict}

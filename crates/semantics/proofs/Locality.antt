@@ -1,12 +1,6 @@
 -- Locality: whether a formula holds on [b,e] depends only on the signals at the cycles b..e and on the marks there of the names that it
 -- reaches. The two traces may have any two lengths, as long as both contain [b,e].
-use Prim.Native.Nat.{ℕ, zero, suc, ◌+◌, ◌-◌, ◌≤◌, ◌<◌}
-use native.Mathlib.Omega.{arith}
-use mathlib.Core.Bool.{Bool, true, false, not, cond, ◌&&◌, ◌||◌}
-use mathlib.Core.List.{List}
-use mathlib.Core.Path.{◌≡◌, refl, sym, ap, ap₂, ◌∙◌}
-use lib.Dec.{leb, eqb}
-use lib.ListN.{length, get_or}
+use Rattle.std.proofs.Common.{ℕ, zero, suc, ◌+◌, ◌-◌, ◌≤◌, ◌<◌, arith, Bool, true, false, not, cond, ◌&&◌, ◌||◌, List, ◌≡◌, refl, sym, ap, ap₂, ◌∙◌, leb, eqb, length, get_or}
 use Rattle.semantics.specs.Cycles.{some_in, some_column}
 use Rattle.semantics.specs.Proposition.{Proposition, never, always, signal, name, negated, both_of, either_of, Trace, Marks, signal_at, holds_at}
 use Rattle.semantics.specs.Formula.{Formula, point, stretch, whole, unit, chop, conjunction, disjunction, star, slen, scount, sdur, drawn, at, gap, negation, for_some}

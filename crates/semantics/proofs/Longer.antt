@@ -1,13 +1,7 @@
 -- A broken clause doesn't heal (request 7): what is false of a trace is false of every trace that begins with it. A clause looks at no cycle
 -- after the last of i, j and k, so where it is broken in the first cycles it is broken in the whole, and nowhere else among them.
-use Prim.Native.Nat.{ℕ, suc, ◌≤◌, ◌<◌}
-use native.Mathlib.Omega.{arith}
-use mathlib.Core.Bool.{Bool, true, not, ◌&&◌}
-use mathlib.Core.List.{◌++◌}
-use mathlib.Core.Path.{◌≡◌, refl, sym, ap, ap₂, ◌∙◌}
-use lib.Dec.{leb, eqb}
-use lib.ListN.{length, length-append, get_or-append}
-use borrow.Author.Tests.{leb-true}
+use Rattle.std.proofs.Common.{ℕ, suc, ◌≤◌, ◌<◌, arith, Bool, true, not, ◌&&◌, ◌++◌, ◌≡◌, refl, sym, ap, ap₂, ◌∙◌, leb, eqb, length, length-append, leb-true}
+use lib.ListN.{get_or-append}
 use Rattle.semantics.specs.Cycles.{some_in}
 use Rattle.semantics.specs.Proposition.{Proposition, never, always, signal, name, negated, both_of, either_of, Trace, Marks, bit, signal_at}
 use Rattle.semantics.specs.Formula.{Formula, point, stretch, whole, unit, chop, conjunction, disjunction, star, slen, scount, sdur, drawn, at, gap, negation, for_some, holds}

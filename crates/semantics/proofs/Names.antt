@@ -1,9 +1,7 @@
 -- Laws of sets of names.
-use Prim.Native.Nat.{ℕ}
-use mathlib.Core.Bool.{Bool, true, false, not, ◌&&◌, ◌||◌, true≢false, false≢true}
-use mathlib.Core.Logic.{◌⊎◌, inl, inr}
-use mathlib.Core.Path.{◌≡◌, refl, sym, fun_ext}
-use lib.Dec.{ltb}
+use Rattle.std.proofs.Common.{ℕ, Bool, true, false, not, ◌&&◌, ◌||◌, true≢false, ◌⊎◌, inl, inr, ◌≡◌, refl, sym, ltb}
+use mathlib.Core.Bool.{false≢true}
+use mathlib.Core.Path.{fun_ext}
 use Rattle.semantics.specs.Placement.{Names, no_names, union, without, listed}
 use Rattle.semantics.proofs.Tests.{test, and_intro, and_left, and_right, and_true_right, or_left, or_right, or_elim}
 

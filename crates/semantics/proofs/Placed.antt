@@ -1,13 +1,5 @@
 -- `placed`: columns with exactly one mark each on the interval are the placements over it; `once`: a name with one mark there stands in it.
-use Prim.Native.Nat.{ℕ, zero, suc, ◌≤◌, ◌<◌}
-use native.Mathlib.Omega.{arith}
-use mathlib.Core.Bool.{Bool, true, false, not, cond, ◌&&◌, ◌||◌, true≢false}
-use mathlib.Core.List.{List}
-use mathlib.Core.Logic.{inl, inr}
-use mathlib.Core.Path.{◌≡◌, refl, sym, ap, subst, ◌∙◌}
-use lib.Dec.{leb, eqb}
-use lib.ListN.{length, get_or}
-use borrow.Author.Tests.{leb-true, le-leb, eqb-true, eq-eqb}
+use Rattle.std.proofs.Common.{ℕ, zero, suc, ◌≤◌, ◌<◌, arith, Bool, true, false, not, cond, ◌&&◌, ◌||◌, true≢false, List, inl, inr, ◌≡◌, refl, sym, ap, subst, ◌∙◌, leb, eqb, length, get_or, leb-true, le-leb, eqb-true, eq-eqb}
 use Rattle.semantics.specs.Cycles.{some_in, count_in, some_column}
 use Rattle.semantics.specs.Proposition.{Trace, Marks, name, holds_at}
 use Rattle.semantics.specs.Formula.{Formula, conjunction, scount, equal, for_some, compared, mark, holds}

@@ -1,10 +1,7 @@
 -- Placements: `somePlacement` is document 01's "some placement over [x,y]", of the names that no part before lists.
-use Prim.Native.Nat.{ℕ, zero, suc, ◌≤◌, ◌<◌}
-use native.Mathlib.Omega.{arith}
-use mathlib.Core.Bool.{Bool, true, false, not, cond, ◌&&◌, ◌||◌, true≢false, false≢true}
-use mathlib.Core.Path.{◌≡◌, refl, sym, ap, fun_ext, ◌∙◌}
-use lib.Dec.{leb, ltb, eqb}
-use borrow.Author.Tests.{leb-true, le-leb, eqb-true, ne_eqb, le-ltb}
+use Rattle.std.proofs.Common.{ℕ, zero, suc, ◌≤◌, ◌<◌, arith, Bool, true, false, not, cond, ◌&&◌, ◌||◌, true≢false, ◌≡◌, refl, sym, ap, ◌∙◌, leb, ltb, eqb, leb-true, le-leb, eqb-true, ne_eqb, le-ltb}
+use mathlib.Core.Bool.{false≢true}
+use mathlib.Core.Path.{fun_ext}
 use Rattle.semantics.specs.Cycles.{some_in}
 use Rattle.semantics.specs.Placement.{Names, listed, Placement, moved, place_name, some_placement}
 use Rattle.semantics.specs.Inside.{inside_name, inside}

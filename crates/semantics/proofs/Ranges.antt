@@ -1,10 +1,5 @@
 -- A clause fails exactly if it is broken at some place; the ranges of i, j and k for each type.
-use Prim.Native.Nat.{ℕ, suc, ◌-◌, ◌<◌}
-use native.Mathlib.Omega.{arith}
-use mathlib.Core.Bool.{Bool, true, ◌&&◌}
-use mathlib.Core.Path.{◌≡◌, refl}
-use lib.Dec.{leb, eqb}
-use borrow.Author.Tests.{leb-true, le-leb, eq-eqb}
+use Rattle.std.proofs.Common.{ℕ, suc, ◌-◌, ◌<◌, arith, Bool, true, ◌&&◌, ◌≡◌, refl, leb, eqb, leb-true, le-leb, eq-eqb}
 use Rattle.semantics.specs.Cycles.{some_below, some_from, some_in}
 use Rattle.semantics.specs.Placement.{Names, Placement, some_placement}
 use Rattle.semantics.proofs.Tests.{same, and_intro, and_left, and_right}

@@ -1,14 +1,7 @@
 -- The reading of placements: a clause is broken at i, j, k as `breaksAt` has it exactly if it is in the words of document 01 and request 4, where
 -- every part has a placement of its own Θ, each name inside the interval of the first part that lists it, and two placements agree if shared
 -- names have the same cycle.
-use Prim.Native.Nat.{ℕ, suc, ◌≤◌, ◌<◌}
-use native.Mathlib.Omega.{arith}
-use mathlib.Core.Bool.{Bool, true, false, not, cond, ◌&&◌}
-use mathlib.Core.Logic.{inl, inr, ◌↔◌}
-use mathlib.Core.Path.{◌≡◌, refl, sym, ap₂, ◌∙◌}
-use lib.Dec.{leb, eqb}
-use lib.ListN.{length}
-use borrow.Author.Tests.{leb-true, le-leb, eqb-true, eq-eqb}
+use Rattle.std.proofs.Common.{ℕ, suc, ◌≤◌, ◌<◌, arith, Bool, true, false, not, cond, ◌&&◌, inl, inr, ◌↔◌, ◌≡◌, refl, sym, ap₂, ◌∙◌, leb, eqb, length, leb-true, le-leb, eqb-true, eq-eqb}
 use Rattle.semantics.specs.Cycles.{some_from, some_in}
 use Rattle.semantics.specs.Proposition.{Trace}
 use Rattle.semantics.specs.Placement.{Names, no_names, union, without, listed, Placement, unplaced, some_placement}

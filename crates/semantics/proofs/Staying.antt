@@ -1,8 +1,6 @@
 -- Request 4's own example, as in examples/before, of the meanings: a reply within four minutes of the offer, and before the minute in which
 -- the courier leaves. The minute is named by the first part and lies after the reply's interval.
-use mathlib.Core.List.{[], ◌∷◌}
-use mathlib.Core.Path.{◌≡◌, refl}
-use lib.Dec.{eqb}
+use Rattle.std.proofs.Common.{[], ◌∷◌, ◌≡◌, refl, eqb}
 use Rattle.semantics.specs.Cycles.{some_below, some_from, first_below, count_below, count_from}
 use Rattle.semantics.specs.Proposition.{Trace, signal, name, negated, bit, signal_at, holds_at}
 use Rattle.semantics.specs.Formula.{holds, compared, point, whole, chop, conjunction, slen, scount, at, equal, at_least}

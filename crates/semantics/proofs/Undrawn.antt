@@ -1,12 +1,8 @@
 -- A drawing and the formula that tells it without drawings hold on the same intervals.
-use Prim.Native.Nat.{ℕ, suc, ◌+◌, ◌-◌, ◌≤◌}
-use native.Mathlib.Omega.{arith}
-use mathlib.Core.Bool.{Bool, true, false, not, ◌&&◌, ◌||◌, false≢true}
-use mathlib.Core.List.{List}
-use mathlib.Core.Path.{◌≡◌, refl, ap, ap₂, fun_ext, ◌∙◌}
-use lib.Dec.{leb, eqb, leb-zero}
-use lib.ListN.{length}
-use borrow.Author.Tests.{eqb-true, eq-eqb}
+use Rattle.std.proofs.Common.{ℕ, suc, ◌+◌, ◌-◌, ◌≤◌, arith, Bool, true, false, not, ◌&&◌, ◌||◌, List, ◌≡◌, refl, ap, ap₂, ◌∙◌, leb, eqb, length, eqb-true, eq-eqb}
+use mathlib.Core.Bool.{false≢true}
+use mathlib.Core.Path.{fun_ext}
+use lib.Dec.{leb-zero}
 use Rattle.semantics.specs.Cycles.{some_in, some_column}
 use Rattle.semantics.specs.Proposition.{Trace, Marks, signal_at, holds_at}
 use Rattle.semantics.specs.Formula.{Formula, point, stretch, whole, unit, chop, conjunction, disjunction, star, slen, scount, sdur, drawn, at, gap, negation, for_some}
