@@ -49,12 +49,12 @@ pub fn has(set: u64, b: usize) -> bool
 pub fn up_to_first(set: u64) -> u64
     ensures { result ≡ word 64 (λ e. not (some_below e (bit set))) }
 {
-    up_to(u64::trailing_zeros(set) as usize)
+    up_to(set.trailing_zeros() as usize)
 }
 
 // The cycles before the least of a set.
 pub fn before_first(set: u64) -> u64
     ensures { result ≡ word 64 (λ e. not (some_below (suc e) (bit set))) }
 {
-    below(u64::trailing_zeros(set) as usize)
+    below(set.trailing_zeros() as usize)
 }
