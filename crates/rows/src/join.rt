@@ -2,17 +2,16 @@
 ghost use Rattle.std.specs.Prelude.{◌≡◌, ◌≤◌, length, get_or};
 ghost use Rattle.rows.specs.Row.{joined};
 
+use crate::cycles::Cycles;
+
 // All rows of `second` that start where an interval of `row` ends: the row of a chop.
 pub fn join(row: u64, second: &[u64]) -> u64
     requires { 64 ≤ length second.now }
     ensures { result ≡ joined row (λ i. get_or second.now i 0) }
 {
-    let mut out: u64 = 0;
-    let mut left = row;
-    while left != 0 {
-        let i = u64::trailing_zeros(left) as usize;
+    let mut out = 0;
+    for i in (Cycles { left: row }) {
         out |= second[i];
-        left &= left - 1;
     }
     out
 }
