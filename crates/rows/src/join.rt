@@ -21,11 +21,10 @@ pub fn join_more(row: u64, had: u64, kept: u64, second: &[u64]) -> u64
     requires { (64 ≤ length second.now) × (kept ≡ joined had (λ i. get_or second.now i 0)) }
     ensures { result ≡ joined row (λ i. get_or second.now i 0) }
 {
-    let mut left = row;
-    let mut out: u64 = 0;
-    if had & row == had {
-        left = row ^ had;
-        out = kept;
-    }
+    let (left, out) = if had & row == had {
+        (row ^ had, kept)
+    } else {
+        (row, 0)
+    };
     out | join(left, second)
 }

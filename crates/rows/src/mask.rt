@@ -5,7 +5,7 @@ ghost use Rattle.semantics.specs.Proposition.{bit};
 ghost use Rattle.rows.specs.Row.{word, row, always};
 
 // Every cycle.
-pub const ALL: u64 = 0xffff_ffff_ffff_ffff;
+pub const ALL: u64 = u64::MAX;
 
 // The cycles below k.
 pub fn below(k: usize) -> u64
