@@ -2,16 +2,19 @@
 use Prim.Native.Nat.{ℕ, suc, ◌+◌, ◌-◌, ◌^◌, ◌≤◌, ◌<◌}
 use mathlib.Core.Bool.{Bool, true, not, cond, ◌&&◌, ◌||◌}
 use mathlib.Core.Logic.{inl, inr}
-use mathlib.Core.Path.{◌≡◌, sym, ap, ap₂, ◌∙◌}
+use mathlib.Core.Path.{◌≡◌, sym, ap, ap₂, subst, ◌∙◌}
 use native.Mathlib.Numerals.{add-one}
 use native.Mathlib.Omega.{arith}
 use lib.Dec.{leb, ltb, eqb}
-use lib.Bits.{bit_and, bit_or, bit_xor, or_lt, or_zero_r}
+use lib.Bits.{bit_and, bit_or, bit_xor, and_le_r, or_lt, or_zero_r}
 use lib.Count.{count_trailing_zeros}
 use borrow.Author.Tests.{ltb-true, lt-ltb, eqb-true}
 use Rattle.semantics.specs.Cycles.{some_below, some_in}
 use Rattle.semantics.specs.Proposition.{bit}
 use Rattle.semantics.specs.Formula.{chain}
+use Rattle.std.proofs.Common.{Some}
+use Rattle.rows.specs.declared.cycles.Cycles.{Cycles}
+use Rattle.rows.specs.Least.{GivesLeast}
 use Rattle.rows.specs.Row.{word, row, joined, starred}
 use Rattle.semantics.proofs.Tests.{and_comm, same, test, false_not, is_false, both, and_left, and_right, or_left, or_right, or_elim}
 use Rattle.semantics.proofs.Cycles.{below_intro, below_elim, below_cong, some_intro, some_elim}
@@ -109,6 +112,14 @@ join_turn whole out left words ho hz hl hw inv =
         ])
 
 -- the loop's end: nothing is left
+
+-- the same, for the next cycle of a set
+pub join_next : (whole out i : ℕ) (s t : Cycles) (words : ℕ → ℕ) → out < 2 ^ 64 → s.left < 2 ^ 64 → GivesLeast s (Some i) t → words i < 2 ^ 64
+    → whole ≡ bit_or out (joined s.left words) → (t.left < 2 ^ 64) × (whole ≡ bit_or (bit_or out (words i)) (joined t.left words))
+join_next whole out i s t words ho hs g hw inv =
+    rw (g.2, g.1)
+    (omega (arith, and_le_r s.left (s.left - 1)), join_turn whole out s.left words ho g.0 hs (subst (λ (k : ℕ). words k < 2 ^ 64) g.1 hw) inv)
+
 pub join_end : (set out left : ℕ) (words : ℕ → ℕ) → left ≡ 0 → joined set words ≡ bit_or out (joined left words) → out ≡ joined set words
 join_end set out left words none inv =
     sym (inv ∙ ap (λ (x : ℕ). bit_or out (joined x words)) none ∙ ap (bit_or out) (joined_none words) ∙ or_zero_r out)

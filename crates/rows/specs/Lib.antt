@@ -1,3 +1,4 @@
 -- Sets of cycles as words.
 pub mod Row
 pub mod Symbols
+pub mod Least

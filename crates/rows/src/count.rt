@@ -26,15 +26,13 @@ fn more_than(column: u64, number: usize, last: usize, b: usize) -> u64
     ensures { Counted above column number last b result }
 {
     let mut left = column & !below(b);
-    if u64::count_ones(left) as usize <= number {
+    if left.count_ones() as usize <= number {
         return 0;
     }
-    let mut more = number;
-    while 0 < more {
+    for _ in 0..number {
         left &= left - 1;
-        more -= 1;
     }
-    !below(u64::trailing_zeros(left) as usize + 1 - last)
+    !below(left.trailing_zeros() as usize + 1 - last)
 }
 
 // The same, where it has at least `number`.

@@ -4,6 +4,7 @@ ghost use Rattle.semantics.specs.Cycles.{some_in};
 ghost use Rattle.semantics.specs.Proposition.{bit};
 ghost use Rattle.rows.specs.Row.{word, row, joined, shifted};
 
+use crate::cycles::Cycles;
 use crate::mask::{before_first, below, cycles_from, up_to};
 
 // The distances from `least` to `most`.
@@ -17,12 +18,9 @@ fn window(least: usize, most: usize) -> u64
 fn spread(set: u64, distances: u64) -> u64
     ensures { result ≡ joined set (shifted distances) }
 {
-    let mut out: u64 = 0;
-    let mut left = set;
-    while left != 0 {
-        let i = u64::trailing_zeros(left) as usize;
+    let mut out = 0;
+    for i in (Cycles { left: set }) {
         out |= distances << i;
-        left &= left - 1;
     }
     out
 }

@@ -2,17 +2,16 @@
 ghost use Rattle.std.specs.Prelude.{◌≡◌, ◌≤◌, length, get_or};
 ghost use Rattle.rows.specs.Row.{joined};
 
+use crate::cycles::Cycles;
+
 // All rows of `second` that start where an interval of `row` ends: the row of a chop.
 pub fn join(row: u64, second: &[u64]) -> u64
     requires { 64 ≤ length second.now }
     ensures { result ≡ joined row (λ i. get_or second.now i 0) }
 {
-    let mut out: u64 = 0;
-    let mut left = row;
-    while left != 0 {
-        let i = u64::trailing_zeros(left) as usize;
+    let mut out = 0;
+    for i in (Cycles { left: row }) {
         out |= second[i];
-        left &= left - 1;
     }
     out
 }
@@ -22,11 +21,10 @@ pub fn join_more(row: u64, had: u64, kept: u64, second: &[u64]) -> u64
     requires { (64 ≤ length second.now) × (kept ≡ joined had (λ i. get_or second.now i 0)) }
     ensures { result ≡ joined row (λ i. get_or second.now i 0) }
 {
-    let mut left = row;
-    let mut out: u64 = 0;
-    if had & row == had {
-        left = row ^ had;
-        out = kept;
-    }
+    let (left, out) = if had & row == had {
+        (row ^ had, kept)
+    } else {
+        (row, 0)
+    };
     out | join(left, second)
 }

@@ -4,6 +4,7 @@
 
 pub mod count;
 pub mod cut;
+mod cycles;
 pub mod gap;
 pub mod join;
 pub mod mask;

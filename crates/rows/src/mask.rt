@@ -5,7 +5,7 @@ ghost use Rattle.semantics.specs.Proposition.{bit};
 ghost use Rattle.rows.specs.Row.{word, row, always};
 
 // Every cycle.
-pub const ALL: u64 = 0xffff_ffff_ffff_ffff;
+pub const ALL: u64 = u64::MAX;
 
 // The cycles below k.
 pub fn below(k: usize) -> u64
@@ -49,12 +49,12 @@ pub fn has(set: u64, b: usize) -> bool
 pub fn up_to_first(set: u64) -> u64
     ensures { result ≡ word 64 (λ e. not (some_below e (bit set))) }
 {
-    up_to(u64::trailing_zeros(set) as usize)
+    up_to(set.trailing_zeros() as usize)
 }
 
 // The cycles before the least of a set.
 pub fn before_first(set: u64) -> u64
     ensures { result ≡ word 64 (λ e. not (some_below (suc e) (bit set))) }
 {
-    below(u64::trailing_zeros(set) as usize)
+    below(set.trailing_zeros() as usize)
 }

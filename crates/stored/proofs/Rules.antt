@@ -6,12 +6,24 @@ use mathlib.Core.Logic.{◌⊎◌, inl, inr}
 use mathlib.Core.Path.{◌≡◌, refl, sym, ◌∙◌, ap, ap₂, subst}
 use native.Mathlib.Nat.{one-mul, mod-eq_of_lt}
 use native.Mathlib.Numerals.{add-one}
+use Rattle.std.proofs.Common.{add-zero}
+use Rattle.std.proofs.Math.Nat.{sub-zero}
 use native.Mathlib.Omega.{arith}
 use borrow.Author.Tests.{eqb-true, eqb-false}
 use lib.Dec.{eqb, ltb}
 use lib.ListN.{length, get_or}
 use lib.Pow.{pow-lt}
-use Rattle.semantics.proofs.Tests.{test, and_left, and_right, and_intro}
+use denote.Param.Members.{Mut}
+use Rattle.std.specs.declared.ops.Range.{Range}
+use Rattle.std.specs.declared.option.Option.{Option}
+use Rattle.std.specs.Fn.{Called}
+use Rattle.std.specs.Iterator.{YieldsThen}
+use Rattle.std.specs.List.{FoldsTo, list_all, range_with_len}
+use Rattle.std.specs.Option.{MatchOption}
+use Rattle.std.proofs.iter.Yields.{nat_range_steps}
+use Rattle.std.proofs.lemmas.Iterator.{YieldsList-from_range}
+use Rattle.std.proofs.lemmas.Iterator.Search.{all_from_yields_List}
+use Rattle.semantics.proofs.Tests.{test, and_left, and_right, and_intro, and_assoc, and_true_right}
 use Rattle.stored.specs.Bytes.{every_below, in_order, lowest}
 
 -- what is asked only if a holds
@@ -102,6 +114,34 @@ lowest_law k (true ∷ rules) p =
     before more zero (suc i) e h = absurd (omega arith)
     before more (suc j) (suc i) e h = more.before j i (omega arith) (omega arith)
 
+pub every_same : (n : ℕ) (p q : ℕ → Bool) → ((i : ℕ) → i < n → p i ≡ q i) → every_below n p ≡ every_below n q
+unfolding every_below
+every_same zero p q h = refl
+every_same (suc n) p q h = ap₂ (λ (y z : Bool). y && z) (every_same n p q (λ i l. h i (omega arith))) (h n (omega arith))
+
+-- a test of each number of a range: the first, then the others
+every_first : (n : ℕ) (p : ℕ → Bool) → every_below (suc n) p ≡ (p 0 && every_below n (λ k. p (suc k)))
+unfolding every_below
+every_first zero p = sym (and_true_right (p 0))
+every_first (suc n) p = ap (λ (y : Bool). y && p (suc n)) (every_first n p) ∙ sym (and_assoc (p 0) (every_below n (λ k. p (suc k))) (p (suc n)))
+
+every_listed : (n a : ℕ) (p : ℕ → Bool) → list_all p (range_with_len a n) ≡ every_below n (λ k. p (a + k))
+every_listed zero a p = unfold every_below in refl
+every_listed (suc n) a p =
+    ap₂ (λ (y z : Bool). y && z) (ap p (sym (add-zero a)))
+    (every_listed n (a + 1) p
+    ∙ every_same n (λ k. p (a + 1 + k)) (λ k. p (a + suc k)) (λ k l. let next : a + 1 + k ≡ a + suc k = omega arith in ap p next))
+    ∙ sym (every_first n (λ k. p (a + k)))
+
+-- what `all` answers over the numbers below n, where its closure tests each by p
+pub every_of_all : {F : Type 0} {g : Mut F (ℕ × Unit {0}) Bool} (n : ℕ) (p : ℕ → Bool) (u : Range ℕ) (f : F) (r : Bool)
+    → (xs : List ℕ) × (o : Option ℕ) × (j : F) × YieldsThen nat_range_steps (record { start = 0; end = n }) xs o u × FoldsTo (λ p x q. Called g p (x, tt) true q) f xs j × MatchOption o (r ≡ true) (λ x. (r ≡ false) × ((h : F) × Called g j (x, tt) false h))
+    → ((x : ℕ) (b : Bool) (q : F) → Called g f (x, tt) b q → (q ≡ f) × (b ≡ p x)) → r ≡ every_below n p
+every_of_all n p u f r ran tests =
+    all_from_yields_List p u f r ran (YieldsList-from_range 0 n n refl (sub-zero n)) tests
+    ∙ every_listed n 0 p
+    ∙ every_same n (λ k. p (0 + k)) p (λ k l. let same : 0 + k ≡ k = omega arith in ap p same)
+
 -- a loop that joins tests
 pub every_next : (n : ℕ) (p : ℕ → Bool) (ok r : Bool) → ok ≡ every_below n p → r ≡ p n → (ok && r) ≡ every_below (n + 1) p
 every_next n p ok r e f = ap₂ (λ (y z : Bool). y && z) e f ∙ sym (every_suc n p)
@@ -114,8 +154,3 @@ pub shift_one : (m : ℕ) → m < 64 → 1 * 2 ^ m % 18446744073709551616 ≡ 2 
 shift_one m h =
     let fits : 2 ^ m < 2 ^ 64 = pow-lt h in
     rw one-mul (mod-eq_of_lt fits)
-
-pub every_same : (n : ℕ) (p q : ℕ → Bool) → ((i : ℕ) → i < n → p i ≡ q i) → every_below n p ≡ every_below n q
-unfolding every_below
-every_same zero p q h = refl
-every_same (suc n) p q h = ap₂ (λ (y z : Bool). y && z) (every_same n p q (λ i l. h i (omega arith))) (h n (omega arith))

@@ -88,13 +88,7 @@ pub fn clauses_ok(nodes: &[u8], n: usize, clauses: &[u8], c: usize) -> bool
     requires { (node_size * n ≤ length nodes.now) × (clause_size * c ≤ length clauses.now) }
     ensures { result ≡ every_below c (clause_right_at (node_at nodes.now) n (stored_at clauses.now)) }
 {
-    let mut ok = true;
-    let mut k = 0;
-    while k < c {
-        ok = ok & clause_ok(nodes, n, stored_at(clauses, k));
-        k += 1;
-    }
-    ok
+    (0..c).all(|k| clause_ok(nodes, n, stored_at(clauses, k)))
 }
 
 // The mask has bits for names below m only and, if the part is used, for every name that its root reaches.
@@ -124,13 +118,7 @@ fn all_covered(table: &[usize], m: usize, clauses: &[u8], c: usize) -> bool
     requires { (m < 64) × (clause_size * c ≤ length clauses.now) }
     ensures { result ≡ every_below c (clause_covered_at table.now m (stored_at clauses.now)) }
 {
-    let mut ok = true;
-    let mut k = 0;
-    while k < c {
-        ok = ok & clause_covered(table, m, stored_at(clauses, k));
-        k += 1;
-    }
-    ok
+    (0..c).all(|k| clause_covered(table, m, stored_at(clauses, k)))
 }
 
 // Rule 9: every mask has bits for names below m only, and covers what its part reaches.

@@ -69,11 +69,8 @@ pub fn reach_table(nodes: &[u8], n: usize) -> [usize; layout::MOST_NODES]
     ensures { result ≡ reach_table (node_at nodes.now) n }
 {
     let mut table = [0usize; layout::MOST_NODES];
-    let mut i = 0;
-    while i < n {
-        let mask = node_reach(&table, nodes::node_at(nodes, i));
-        table[i] = mask;
-        i += 1;
+    for i in 0..n {
+        table[i] = node_reach(&table, nodes::node_at(nodes, i));
     }
     table
 }

@@ -97,13 +97,7 @@ pub fn nodes_ok(nodes: &[u8], n: usize, s: usize, m: usize) -> bool
     requires { node_size * n ≤ length nodes.now }
     ensures { result ≡ every_below n (node_right requirement_sorts s m (node_at nodes.now)) }
 {
-    let mut ok = true;
-    let mut i = 0;
-    while i < n {
-        ok = ok & fields_ok(s, m, node_at(nodes, i));
-        i += 1;
-    }
-    ok
+    (0..n).all(|i| fields_ok(s, m, node_at(nodes, i)))
 }
 
 // The sort of node v if it stands before node i, else 0.
@@ -144,13 +138,7 @@ pub fn operands_ok(nodes: &[u8], n: usize) -> bool
     requires { node_size * n ≤ length nodes.now }
     ensures { result ≡ every_below n (operands_right requirement_sorts (node_at nodes.now)) }
 {
-    let mut ok = true;
-    let mut i = 0;
-    while i < n {
-        ok = ok & operands_ok_at(nodes, i);
-        i += 1;
-    }
-    ok
+    (0..n).all(|i| operands_ok_at(nodes, i))
 }
 
 pub fn is_formula_node(nodes: &[u8], n: usize, i: usize) -> bool

@@ -7,6 +7,7 @@ ghost use Rattle.traces.specs.Trace.{cycle_at, cycle_right, trace_answer, trace_
 
 use crate::TraceAnswer;
 use rows::mask::{has, only};
+use std::array;
 use stored::{bytes, layout};
 
 // No bit from s up is set.
@@ -34,13 +35,7 @@ fn cycles_ok(trace: &[u8], n: usize, s: usize) -> bool
     requires { cycle_size * n + cycles_start ≤ length trace.now }
     ensures { result ≡ every_below n (cycle_right s trace.now) }
 {
-    let mut ok = true;
-    let mut i = 0;
-    while i < n {
-        ok = ok & is_below(cycle_at(trace, i), s);
-        i += 1;
-    }
-    ok
+    (0..n).all(|i| is_below(cycle_at(trace, i), s))
 }
 
 // How many cycles a trace beside a sheet of s signals has, or the lowest number from 10 to 13 that applies to it.
@@ -93,14 +88,12 @@ fn signal_column(trace: &[u8], n: usize, k: usize) -> u64
     requires { (k < 64) × (n ≤ most_cycles) × (cycle_size * n + cycles_start ≤ length trace.now) }
     ensures { result ≡ signal_column trace.now n k }
 {
-    let mut out: u64 = 0;
-    let mut t = 0;
-    while t < n {
+    let mut out = 0;
+    for t in 0..n {
         let signals = cycle_at(trace, t) as u64;
         if has(signals, k) {
             out |= only(t);
         }
-        t += 1;
     }
     out
 }
@@ -110,11 +103,5 @@ pub fn columns(trace: &[u8], s: usize, n: usize) -> [u64; COLUMNS]
     requires { (s ≤ most_signals) × (n ≤ most_cycles) × (cycle_size * n + cycles_start ≤ length trace.now) }
     ensures { result ≡ columns_of s n trace.now }
 {
-    let mut columns = [0u64; COLUMNS];
-    let mut k = 0;
-    while k < s {
-        columns[k] = signal_column(trace, n, k);
-        k += 1;
-    }
-    columns
+    array::from_fn(|k| if k < s { signal_column(trace, n, k) } else { 0 })
 }

@@ -20,13 +20,11 @@ fn put_cycles(out: &mut [u8], cycles: &[u16])
     requires { (length cycles.now ≤ most_cycles) × (trace_end (length cycles.now) ≤ length out.old) }
     ensures { out.new ≡ sets out.old cycles_start (cycle_bytes cycles.now) }
 {
-    let mut i = 0;
-    while i < cycles.len() {
+    for (i, cycle) in cycles.iter().enumerate() {
         let at = trace_end(i);
-        let cycle = cycles[i] as usize;
+        let cycle = usize::from(*cycle);
         out[at] = high(cycle);
         out[at + 1] = low(cycle);
-        i += 1;
     }
 }
 

@@ -5,8 +5,6 @@ use lib.Bits.{bit_or}
 use Rattle.rows.specs.Row.{joined, shifted}
 use Rattle.rows.proofs.gap.spread.Given as goal
 
-abbrev pub invariant-loop-left : goal.invariant-loop-left
-invariant-loop-left l = (l.out < 2 ^ 64) × (l.left < 2 ^ 64) × (joined l.set (shifted l.distances) ≡ bit_or l.out (joined l.left (shifted l.distances)))
-
-abbrev pub decreases-loop-left : goal.decreases-loop-left
-decreases-loop-left l = l.left
+abbrev pub invariant-loop-i : goal.invariant-loop-i
+invariant-loop-i l =
+    (l.i-iterator.left < 2 ^ 64) × (joined l.set (shifted l.distances) ≡ bit_or l.out (joined l.i-iterator.left (shifted l.distances)))

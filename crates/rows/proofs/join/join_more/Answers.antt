@@ -12,9 +12,8 @@ pub returns : goal.returns
 returns c =
     let a = c.args in
     let rows : ℕ → ℕ = λ i. get_or a.second.now i 0 in
-    let join = c.join.ensures in
     elim c.if-had-row.branch [
-      | then-had-row w ↦ ap₂ bit_or (w.out-is ∙ c.requires.1) (join ∙ ap (λ (x : ℕ). joined x rows) w.left-is)
+      | then-had-row w ↦ ap₂ bit_or (ap (λ p. p.1) w.left-is ∙ c.requires.1) (c.join.ensures ∙ ap (λ p. joined p.0 rows) w.left-is)
           ∙ join_new a.row a.had rows w.if-had-row.true
-      | else-had-row w ↦ ap₂ bit_or w.out-is (join ∙ ap (λ (x : ℕ). joined x rows) w.left-is)
+      | else-had-row w ↦ ap₂ bit_or (ap (λ p. p.1) w.left-is) (c.join.ensures ∙ ap (λ p. joined p.0 rows) w.left-is)
     ]

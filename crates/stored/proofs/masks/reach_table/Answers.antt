@@ -11,40 +11,18 @@ use Rattle.stored.specs.Reach.{reach_at, node_reach, reach_table}
 use Rattle.stored.proofs.masks.reach_table.Goals as goal
 
 pub loop-i-init : goal.loop-i-init
-loop-i-init c = (omega arith, refl, entries_none _ 64)
-
-pub slice_bounds-node_reach-end : goal.slice_bounds-node_reach-end
-slice_bounds-node_reach-end c = omega arith
-
-pub node_at-requires : goal.node_at-requires
-node_at-requires c = omega arith
-
-pub node_reach-mask-requires : goal.node_reach-mask-requires
-node_reach-mask-requires c = omega arith
-
-pub offset_bounds-table-i : goal.offset_bounds-table-i
-offset_bounds-table-i c = omega arith
-
-pub bounds-table-i : goal.bounds-table-i
-bounds-table-i c = omega arith
-
-pub overflow_add-i : goal.overflow_add-i
-overflow_add-i c = omega arith
-
-pub loop-i-smaller : goal.loop-i-smaller
-loop-i-smaller c = omega arith
+loop-i-init c = (refl, entries_none _ 64)
 
 pub loop-i-preserved : goal.loop-i-preserved
 loop-i-preserved c =
     let at = c.loop-i in (
-      omega arith,
-      length-set at.table at.i _ ∙ at.invariant.1,
-      entries_next _ at.table at.i _ (omega arith) at.invariant.2
-          (table_next _ at.table at.i _ at.invariant.2 (c.node_reach-mask.ensures ∙ ap (node_reach _) c.node_at.ensures)),
+      length-set at.table at.i _ ∙ at.invariant.0,
+      entries_next _ at.table at.i _ (omega arith) at.invariant.1
+          (table_next _ at.table at.i _ at.invariant.1 (c.node_reach.ensures ∙ ap (node_reach _) c.node_at.ensures)),
     )
 
 pub returns : goal.returns
 unfolding reach_table
 returns c =
     let same : c.loop-i.i ≡ c.args.n = omega arith in
-    entries_all _ 64 _ _ c.loop-i.invariant.1 (λ k. c.loop-i.invariant.2 k ∙ ap (λ (i : ℕ). earlier i 0 (reach_at (node_at c.args.nodes.now)) k) same)
+    entries_all _ 64 _ _ c.loop-i.invariant.0 (λ k. c.loop-i.invariant.1 k ∙ ap (λ (i : ℕ). earlier i 0 (reach_at (node_at c.args.nodes.now)) k) same)

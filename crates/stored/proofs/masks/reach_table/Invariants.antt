@@ -1,6 +1,6 @@
 -- `stored::masks::reach_table` meets its contract.
 use mathlib.Core.Path.{◌≡◌}
-use Prim.Native.Nat.{ℕ, ◌-◌, ◌≤◌}
+use Prim.Native.Nat.{ℕ}
 use lib.ListN.{length, get_or}
 use Rattle.stored.specs.Node.{node_at}
 use Rattle.stored.specs.Tree.{earlier}
@@ -8,7 +8,4 @@ use Rattle.stored.specs.Reach.{reach_at}
 use Rattle.stored.proofs.masks.reach_table.Given as goal
 
 abbrev pub invariant-loop-i : goal.invariant-loop-i
-invariant-loop-i l = (l.i ≤ l.n) × (length l.table ≡ 64) × ((k : ℕ) → get_or l.table k 0 ≡ earlier l.i 0 (reach_at (node_at l.nodes)) k)
-
-abbrev pub decreases-loop-i : goal.decreases-loop-i
-decreases-loop-i l = l.n - l.i
+invariant-loop-i l = (length l.table ≡ 64) × ((k : ℕ) → get_or l.table k 0 ≡ earlier l.i 0 (reach_at (node_at l.nodes)) k)

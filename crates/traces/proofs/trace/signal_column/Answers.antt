@@ -10,23 +10,21 @@ use Rattle.traces.proofs.trace.signal_column.Goals as goal
 use Rattle.traces.proofs.trace.signal_column.Goals.{then-has, else-has}
 
 pub loop-t-init : goal.loop-t-init
-loop-t-init c = (omega arith, signal_none _ _)
+loop-t-init c = signal_none _ _
 
 pub loop-t-preserved : goal.loop-t-preserved
 loop-t-preserved c =
     let at = c.loop-t in
     let a = c.args in
-    let value = ap (λ (z : ℕ). bit z a.k) (sym c.cycle_at-signals.ensures.0) ∙ sym c.has.ensures in (
-      omega arith,
-      elim c.if-has.branch [
-        | then-has w ↦ w.out-is ∙ ap₂ bit_or at.invariant.1 w.only-out.ensures
-            ∙ signal_set a.trace.now at.t a.k (omega arith) (value ∙ w.if-has.true)
-        | else-has w ↦ w.out-is ∙ at.invariant.1 ∙ signal_unset a.trace.now at.t a.k (value ∙ w.if-has.false)
-      ],
-    )
+    let value = ap (λ (z : ℕ). bit z a.k) (sym c.cycle_at-signals.ensures.0) ∙ sym c.has.ensures in
+    elim c.if-has.branch [
+      | then-has w ↦ w.out-is ∙ ap₂ bit_or at.invariant w.only-out.ensures
+          ∙ signal_set a.trace.now at.t a.k (omega arith) (value ∙ w.if-has.true)
+      | else-has w ↦ w.out-is ∙ at.invariant ∙ signal_unset a.trace.now at.t a.k (value ∙ w.if-has.false)
+    ]
 
 pub returns : goal.returns
 returns c =
     let a = c.args in
     let end : c.loop-t.t ≡ a.n = omega arith in
-    c.loop-t.invariant.1 ∙ ap (λ (n : ℕ). signal_column a.trace.now n a.k) end
+    c.loop-t.invariant ∙ ap (λ (n : ℕ). signal_column a.trace.now n a.k) end

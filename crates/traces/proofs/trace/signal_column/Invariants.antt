@@ -1,11 +1,7 @@
 -- `traces::trace::signal_column` meets its contract.
 use mathlib.Core.Path.{◌≡◌}
-use Prim.Native.Nat.{◌-◌, ◌≤◌}
 use Rattle.traces.specs.Columns.{signal_column}
 use Rattle.traces.proofs.trace.signal_column.Given as goal
 
 abbrev pub invariant-loop-t : goal.invariant-loop-t
-invariant-loop-t l = (l.t ≤ l.n) × (l.out ≡ signal_column l.trace l.t l.k)
-
-abbrev pub decreases-loop-t : goal.decreases-loop-t
-decreases-loop-t l = l.n - l.t
+invariant-loop-t l = l.out ≡ signal_column l.trace l.t l.k

@@ -1,5 +1,4 @@
 -- `traces::writer::put_cycles` meets its contract.
-use Prim.Native.Nat.{◌-◌, ◌≤◌}
 use mathlib.Core.Path.{◌≡◌}
 use lib.ListN.{length, take}
 use lib.Seq.{sets}
@@ -8,8 +7,4 @@ use Rattle.traces.specs.Written.{cycle_bytes}
 use Rattle.traces.proofs.writer.put_cycles.Given as goal
 
 abbrev pub invariant-loop-i : goal.invariant-loop-i
-invariant-loop-i l =
-    (l.i ≤ length l.cycles) × (length l.out ≡ length l.initial.out) × (l.out ≡ sets l.initial.out cycles_start (cycle_bytes (take l.i l.cycles)))
-
-abbrev pub decreases-loop-i : goal.decreases-loop-i
-decreases-loop-i l = length l.cycles - l.i
+invariant-loop-i l = l.out ≡ sets l.initial.out cycles_start (cycle_bytes (take l.i l.cycles))
