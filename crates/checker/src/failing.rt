@@ -102,15 +102,12 @@ pub fn first_failing(
     ensures rows_long { length rows.new ≡ 64 }
     ensures failing_is { FailingIs (role_of role) (clause_at nodes.now clauses.now) sizes.clauses (trace_of sizes.cycles columns.old) result }
 {
-    let many = sizes.clauses;
-    let mut k = 0;
-    while k < many {
+    for k in 0..sizes.clauses {
         let d = stored_at(clauses, k);
         let place = role_place(role, d, sizes, nodes, reach, columns, words, rows);
         if place < PLACES {
             return Failing::At(k, place);
         }
-        k += 1;
     }
     Failing::Nothing
 }
@@ -131,16 +128,13 @@ pub fn failing_advice(
     ensures rows_long { length rows.new ≡ 64 }
     ensures value { result ≡ advice_of (in_order sizes.clauses (clause_at nodes.now clauses.now)) (trace_of sizes.cycles columns.old) }
 {
-    let many = sizes.clauses;
     let mut advice = 0;
-    let mut number = 0;
-    while number < many {
+    for number in 0..sizes.clauses {
         let d = stored_at(clauses, number);
         let found = role_place(ADVICE, d, sizes, nodes, reach, columns, words, rows);
         if found < PLACES {
-            advice = advice | (1usize << number);
+            advice |= 1usize << number;
         }
-        number += 1;
     }
     advice
 }

@@ -4,7 +4,6 @@ ghost use Rattle.semantics.specs.Proposition.{bit};
 ghost use Rattle.tables.specs.Table.{standing};
 ghost use Rattle.intervals.specs.Gather.{cut_to, first_name, last_name, gathered, Adds, Ends};
 
-use crate::choice::{choose, greater, lesser};
 use rows::cut::shortest;
 use rows::mask::below;
 use stored::masks::has_name;
@@ -14,7 +13,7 @@ fn cycle_of(names: usize, u: usize, cycles: [usize; 3], none: usize) -> usize
     requires { u < 3 }
     ensures { result ≡ cond (bit names u) (standing cycles u) none }
 {
-    choose(has_name(names, u), cycles[u], none)
+    if has_name(names, u) { cycles[u] } else { none }
 }
 
 // The first cycle of the names in the mask, 63 if there is none.
@@ -24,7 +23,7 @@ fn first_name(names: usize, cycles: [usize; 3]) -> usize
     let a = cycle_of(names, 0, cycles, 63);
     let b = cycle_of(names, 1, cycles, 63);
     let c = cycle_of(names, 2, cycles, 63);
-    lesser(lesser(a, b), lesser(c, 63))
+    a.min(b).min(c.min(63))
 }
 
 // The last cycle of the names in the mask, 0 if there is none.
@@ -34,7 +33,7 @@ fn last_name(names: usize, cycles: [usize; 3]) -> usize
     let a = cycle_of(names, 0, cycles, 0);
     let b = cycle_of(names, 1, cycles, 0);
     let c = cycle_of(names, 2, cycles, 0);
-    greater(greater(a, b), c)
+    a.max(b).max(c)
 }
 
 fn cut_row(short: bool, row: u64) -> u64
@@ -59,15 +58,13 @@ pub fn add(
     ensures adds { Adds n out.old out.new (gathered words.now root names short (standing cycles)) }
     ensures ends { Ends n (gathered words.now root names short (standing cycles)) result }
 {
-    let high = lesser(first_name(names, cycles) + 1, n);
+    let high = (first_name(names, cycles) + 1).min(n);
     let ends = !below(last_name(names, cycles));
     let mut all: u64 = 0;
-    let mut b = 0;
-    while b < high {
+    for b in 0..high {
         let row = cut_row(short, words[64 * root + b]) & ends;
-        out[b] = out[b] | row;
+        out[b] |= row;
         all |= row;
-        b += 1;
     }
     all
 }

@@ -1,6 +1,5 @@
 // The intervals of one placement of names, as three arrays of rows, and the first unanswered place among them.
 #![tactic(auto)]
 
-pub mod choice;
 pub mod gather;
 pub mod search;

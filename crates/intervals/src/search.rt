@@ -7,7 +7,6 @@ ghost use Rattle.intervals.specs.Search.{missed};
 ghost use Rattle.intervals.specs.Places.{numbered, IsLeast};
 ghost use Rattle.intervals.specs.Rows.{type_of, test_of, starting, ending, unreplied, Next};
 
-use crate::choice::lesser;
 use rows::mask::{before_first, below, cycles_from, only, up_to};
 
 // The types of clauses.
@@ -94,6 +93,7 @@ fn no_reply(clause_type: ClauseType, answers: &[u64], i: usize, j: usize, k: usi
 }
 
 // The number of the first unanswered place by i, then j, then k, of those before the best so far; that one where there is none.
+// Document 01 asks for loops over i, j and k, left by label. j and k go from one cycle of a set to the next, by `next`.
 pub fn search(
     clause_type: ClauseType,
     first: &[u64],
@@ -106,10 +106,9 @@ pub fn search(
     requires long_enough { (64 ≤ length first.now) × (64 ≤ length third.now) × (64 ≤ length answers.now) }
     ensures { IsLeast best (numbered n (missed (type_of clause_type) (test_of first.now) (test_of third.now) (test_of answers.now))) result }
 {
-    let rows = lesser(n, (best + 4095) / 4096);
+    let rows = n.min((best + 4095) / 4096);
     let mut place = best;
-    let mut i = 0;
-    'places: while i < rows {
+    'places: for i in 0..rows {
         let from = starts(clause_type, first[i], answers[i], i, n);
         let mut j = next(from, 0);
         while j < n {
@@ -117,14 +116,13 @@ pub fn search(
             let mut k = next(to, 0);
             while k < n {
                 if no_reply(clause_type, answers, i, j, k) {
-                    place = lesser(i * 4096 + j * 64 + k, best);
+                    place = (i * 4096 + j * 64 + k).min(best);
                     break 'places;
                 }
                 k = next(to, k + 1);
             }
             j = next(from, j + 1);
         }
-        i += 1;
     }
     place
 }

@@ -29,22 +29,14 @@ use Rattle.intervals.proofs.Outside.{breaks_out, and_placement}
 use Rattle.intervals.proofs.Places.{least_ext, numbered_same}
 use Rattle.places.proofs.Loops.{unplaced_stands}
 
-pub same_task : {type type' : ClauseType} {premise premise' premises premises' third third' thirds thirds' reply reply' replies replies' quantified quantified' : ℕ}
-    → type ≡ type' → premise ≡ premise' → premises ≡ premises' → third ≡ third' → thirds ≡ thirds' → reply ≡ reply' → replies ≡ replies'
-    → quantified ≡ quantified'
-    → ◌≡◌ {A = Task}
-    (record { clause_type = type; premise = premise; premises = premises; third = third; thirds = thirds; reply = reply; replies = replies; quantified = quantified })
-    (record { clause_type = type'; premise = premise'; premises = premises'; third = third'; thirds = thirds'; reply = reply'; replies = replies'; quantified = quantified' })
-same_task a b c d e f g h =
-    λ i. record { clause_type = a i; premise = b i; premises = c i; third = d i; thirds = e i; reply = f i; replies = g i; quantified = h i }
-
 -- the three masks fit a word
 pub record Masks (d : StoredClause) : Type 0 where
   pub first : d.mask1 < 2 ^ 64
   pub second : d.mask2 < 2 ^ 64
   pub third : d.mask3 < 2 ^ 64
 
-abbrev fields : ℕ → StoredClause → StoredClause
+-- the clause with another number for its type
+abbrev pub fields : ℕ → StoredClause → StoredClause
 fields k d =
     record { clause_type = k; role = d.role; root1 = d.root1; root2 = d.root2; root3 = d.root3; mask1 = d.mask1; mask2 = d.mask2; mask3 = d.mask3 }
 

@@ -9,12 +9,27 @@ use Rattle.stored.specs.Clause.{part_of}
 use Rattle.intervals.specs.declared.search.ClauseType.{ClauseType}
 use Rattle.intervals.specs.declared.search.ClauseType.TheVariants.{Pref, Init, Anti, Implies, Follows, Triggers}
 use Rattle.places.specs.declared.task.Task.{Task}
+use Rattle.places.specs.declared.task.Part.{Part}
 use Rattle.intervals.specs.Search.{on_inside, short_inside, answered, missed}
 use Rattle.intervals.specs.Rows.{type_of}
 
 -- types by their numbers, 1 to 6
 unfoldable pub type_numbered : ℕ → ClauseType
 type_numbered k = get_or (Pref ∷ Pref ∷ Init ∷ Anti ∷ Implies ∷ Follows ∷ Triggers ∷ []) k Triggers
+
+-- a task over three parts
+abbrev pub task_over : ClauseType → Part → Part → Part → ℕ → Task
+task_over type premise third reply quantified =
+    record {
+      clause_type = type;
+      premise = premise.root;
+      premises = premise.names;
+      third = third.root;
+      thirds = third.names;
+      reply = reply.root;
+      replies = bit_and reply.names (2 ^ 64 - 1 - quantified);
+      quantified = quantified;
+    }
 
 -- Each part with those of its names that no part before it lists. A type without Ξ's part takes the first part there: it says nothing.
 unfoldable pub task_of : StoredClause → Task

@@ -1,8 +1,7 @@
 // What the check does for one clause.
 ghost use Rattle.std.specs.Prelude.{◌≡◌, ◌≤◌};
-ghost use Rattle.places.specs.Task.{type_numbered, task_of};
+ghost use Rattle.places.specs.Task.{task_over, task_of};
 
-use intervals::choice::choose;
 use intervals::search::ClauseType;
 use stored::StoredClause;
 
@@ -20,45 +19,59 @@ pub struct Task {
     pub quantified: usize,
 }
 
-fn type_numbered(number: usize) -> ClauseType
-    requires { (1 ≤ number) × (number ≤ 6) }
-    ensures { result ≡ type_numbered number }
+// A part of a clause: its root, and the mask of those of its names that are asked inside.
+#[derive(Clone, Copy)]
+struct Part {
+    root: usize,
+    names: usize,
+}
+
+// The task over three parts. A name that is quantified universally stands where it stands, so the answer isn't asked to hold it.
+fn task_over(
+    clause_type: ClauseType,
+    premise: Part,
+    third: Part,
+    reply: Part,
+    quantified: usize,
+) -> Task
+    ensures { result ≡ task_over clause_type premise third reply quantified }
 {
-    match number {
-        1 => ClauseType::Pref,
-        2 => ClauseType::Init,
-        3 => ClauseType::Anti,
-        4 => ClauseType::Implies,
-        5 => ClauseType::Follows,
-        _ => ClauseType::Triggers,
+    Task {
+        clause_type,
+        premise: premise.root,
+        premises: premise.names,
+        third: third.root,
+        thirds: third.names,
+        reply: reply.root,
+        replies: reply.names & !quantified,
+        quantified,
     }
 }
 
+// The types by their numbers. One without Ξ's part takes the first part there: it says nothing.
 pub fn task_of(d: StoredClause) -> Task
     requires { (1 ≤ d.clause_type) × (d.clause_type ≤ 6) }
     ensures { result ≡ task_of d }
 {
-    let number = d.clause_type;
-    let two = number == 2;
-    let early = number < 5;
-    let same = number < 4;
-    let clause_type = type_numbered(number);
-    let premise = choose(two, d.root2, d.root1);
-    let premises = choose(two, d.mask2, d.mask1);
-    let third = choose(early, d.root1, d.root3);
-    let thirds = choose(early, d.mask1, d.mask3 & !d.mask1);
-    let reply = choose(same, d.root1, d.root2);
-    let late = choose(early, d.mask1, d.mask1 | d.mask3);
-    let quantified = choose(number == 1, 0, choose(two, d.mask2, late));
-    let replies = choose(same, d.mask1, d.mask2) & !quantified;
-    Task {
-        clause_type,
-        premise,
-        premises,
-        third,
-        thirds,
-        reply,
-        replies,
-        quantified,
+    let one = Part {
+        root: d.root1,
+        names: d.mask1,
+    };
+    let two = Part {
+        root: d.root2,
+        names: d.mask2,
+    };
+    let three = Part {
+        root: d.root3,
+        names: d.mask3 & !d.mask1,
+    };
+    let both = d.mask1 | d.mask3;
+    match d.clause_type {
+        1 => task_over(ClauseType::Pref, one, one, one, 0),
+        2 => task_over(ClauseType::Init, two, one, one, d.mask2),
+        3 => task_over(ClauseType::Anti, one, one, one, d.mask1),
+        4 => task_over(ClauseType::Implies, one, one, two, d.mask1),
+        5 => task_over(ClauseType::Follows, one, three, two, both),
+        _ => task_over(ClauseType::Triggers, one, three, two, both),
     }
 }

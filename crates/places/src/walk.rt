@@ -1,17 +1,16 @@
 // The walk over placements: every cycle for each name that a clause quantifies universally and, within, for each name of its answer
 // that is left. It looks for the first broken place, and only before the best one so far.
-ghost use Rattle.std.specs.Prelude.{◌≡◌, true, ◌<◌, ◌≤◌, length};
+ghost use Rattle.std.specs.Prelude.{◌≡◌, true, ◌+◌, ◌<◌, ◌≤◌, length};
 ghost use Rattle.semantics.specs.Proposition.{bit};
 ghost use Rattle.traces.specs.Columns.{trace_of};
 ghost use Rattle.tables.specs.Table.{standing};
 ghost use Rattle.intervals.specs.Gather.{Adds};
-ghost use Rattle.places.specs.Laid.{Laid, Walkable, Unneeded, Walked, with_next, over_last, reply_on, missed_on};
+ghost use Rattle.places.specs.Laid.{Laid, Walkable, Unneeded, Walked, with_next, over_last, reply_on, missed_on, low_of, last_of};
 ghost use Rattle.intervals.specs.Places.{IsLeast};
 ghost use Rattle.intervals.specs.Rows.{type_of};
 ghost use Rattle.intervals.specs.Search.{premised};
 
 use crate::task::Task;
-use intervals::choice::choose;
 use intervals::gather::add;
 use intervals::search::{ClauseType, search};
 use stored::masks::has_name;
@@ -49,6 +48,16 @@ fn onto(spot: Spot, t: usize) -> Spot
         left: left - 1,
         cycles,
     }
+}
+
+// The cycles that a walk goes through for one name, from the first and without the end: all of the trace if it moves, else the one
+// on which it stands.
+fn cycles_of(moves: bool, n: usize, at: usize) -> (usize, usize)
+    requires { (at < n) × (n ≤ 64) }
+    ensures first { result.0 ≡ low_of moves at }
+    ensures end { result.1 ≡ last_of moves n at + 1 }
+{
+    if moves { (0, n) } else { (at, at + 1) }
 }
 
 // Whether no completion of the spot has an unanswered place before the best: the walk then passes over them all.
@@ -203,10 +212,9 @@ pub fn walk(
     let u = 3 - left;
     let cycles = spot.cycles;
     let moves = has_name(job.names, u);
-    let last = choose(moves, job.n - 1, cycles[u]);
+    let (first, end) = cycles_of(moves, job.n, cycles[u]);
     let mut least = best;
-    let mut t = choose(moves, 0, cycles[u]);
-    while t <= last {
+    for t in first..end {
         least = walk(
             onto(spot, t),
             job,
@@ -217,7 +225,6 @@ pub fn walk(
             words,
             rows,
         );
-        t += 1;
     }
     least
 }

@@ -41,20 +41,6 @@ row_other words i b v k c l m ne =
     get_or-set_other words (64 * i + b) (64 * k + c) v 0
     (λ e. let same : k ≡ i = omega arith in ne same (omega arith))
 
--- one row more is cleared
-pub cleared_more : (i b : ℕ) (old new : List ℕ) → b < 64 → 64 * i + b < length new → Cleared i b old new → Cleared i (b + 1) old (set new (64 * i + b) 0)
-cleared_more i b old new l h t =
-    record {
-      empty = record {
-        none = λ c m.
-            elim (test (eqb c b)) [
-              | inl s ↦ subst (λ (d : ℕ). row_at (set new (64 * i + b) 0) i d ≡ 0) (sym (eqb-true c b s)) (row_set new i b 0 h)
-              | inr s ↦ (let other = eqb-false c b s in row_other new i b 0 i c l (omega arith) (λ _ y. other y) ∙ t.empty.none c (omega arith))
-            ];
-      };
-      beside = λ k c m ne. row_other new i b 0 k c l m (λ y _. ne y) ∙ t.beside k c m ne;
-    }
-
 -- the rows before a stored one stay empty
 pub empty_set : (i b v : ℕ) (words : List ℕ) → 0 < b → b ≤ 64 → Empty i b words → Empty i (b - 1) (set words (64 * i + (b - 1)) v)
 empty_set i b v words p l t =

@@ -4,5 +4,6 @@ pub mod Columns
 pub mod Rows
 pub mod Nodes
 pub mod Meaning
+pub mod Parts
 pub mod Fills
 pub mod Moves

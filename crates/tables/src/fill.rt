@@ -42,9 +42,7 @@ fn put_joined(nodes: &[u8], count: usize, n: usize, columns: &[u64], i: usize, w
     let second = x.b;
     let mut had: u64 = 0;
     let mut kept: u64 = 0;
-    let mut b = n;
-    while 0 < b {
-        b -= 1;
+    for b in (0..n).rev() {
         let ends = row_at(words, first, b);
         if ends != 0 {
             kept = joined_at(ends, had, kept, words, second);
@@ -73,9 +71,7 @@ fn put_and_or(nodes: &[u8], count: usize, n: usize, columns: &[u64], i: usize, w
     ensures { Filled (node_at nodes.now) (trace_of n columns.now) (marks_of columns.now) n i words.old words.new }
 {
     let x = node_at(nodes, i);
-    let mut b = n;
-    while 0 < b {
-        b -= 1;
+    for b in (0..n).rev() {
         let row = and_or_row(x, n, words, i, b);
         words[64 * i + b] = row;
     }
@@ -108,9 +104,7 @@ fn put_drawing(nodes: &[u8], count: usize, n: usize, columns: &[u64], i: usize, 
     let x = node_at(nodes, i);
     let first = column::first(x, i, columns, words);
     let second = column::second(x, i, columns);
-    let mut b = n;
-    while 0 < b {
-        b -= 1;
+    for b in (0..n).rev() {
         let row = drawing_row(x, n, first, second, words, i, b);
         words[64 * i + b] = row;
     }
@@ -128,9 +122,7 @@ fn put_star(nodes: &[u8], count: usize, n: usize, columns: &[u64], i: usize, wor
     let first = x.a;
     let mut had: u64 = 0;
     let mut kept: u64 = 0;
-    let mut b = n;
-    while 0 < b {
-        b -= 1;
+    for b in (0..n).rev() {
         let later = row_at(words, first, b) & !below(b + 1);
         kept = joined_at(later, had, kept, words, i);
         had = later;
@@ -149,9 +141,7 @@ fn put_plain(nodes: &[u8], count: usize, n: usize, columns: &[u64], i: usize, wo
     let x = node_at(nodes, i);
     let first = column::first(x, i, columns, words);
     let second = column::second(x, i, columns);
-    let mut b = n;
-    while 0 < b {
-        b -= 1;
+    for b in (0..n).rev() {
         let row = plain_row(x, n, first, second, words, i, b);
         words[64 * i + b] = row;
     }
@@ -214,12 +204,10 @@ fn fill(
     requires kept { Kept (node_at nodes.now) count n reach.now moved columns.now words.old }
     ensures { Tables (node_at nodes.now) count n columns.now words.new }
 {
-    let mut i = 0;
-    while i < count {
+    for i in 0..count {
         if (reach[i] | 8) & moved != 0 {
             put_node(nodes, count, n, columns, i, words);
         }
-        i += 1;
     }
 }
 

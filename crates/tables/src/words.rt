@@ -29,20 +29,14 @@ pub fn clear_rows(words: &mut [u64], i: usize, n: usize)
     requires { (n ≤ 64) × (64 * i + 64 ≤ length words.old) }
     ensures { Cleared i n words.old words.new }
 {
-    let mut b = 0;
-    while b < n {
-        words[64 * i + b] = 0;
-        b += 1;
-    }
+    let from = 64 * i;
+    let to = from + n;
+    words[from..to].fill(0);
 }
 
 // Every word zero.
 pub fn clear(words: &mut [u64])
     ensures { words.new ≡ replicate (length words.old) 0 }
 {
-    let mut k = 0;
-    while k < words.len() {
-        words[k] = 0;
-        k += 1;
-    }
+    words.fill(0);
 }

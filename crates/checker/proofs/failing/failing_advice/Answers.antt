@@ -30,9 +30,6 @@ role_place-found-requires c =
 pub overflow_shl-advice : goal.overflow_shl-advice
 overflow_shl-advice c = omega (arith, c.requires.sounds.0.few, c.loop-number-test.true)
 
-pub overflow_add-number : goal.overflow_add-number
-overflow_add-number c = omega (arith, c.requires.sounds.0.few, c.loop-number-test.true)
-
 pub loop-number-preserved : goal.loop-number-preserved
 unfolding role_of
 loop-number-preserved c =

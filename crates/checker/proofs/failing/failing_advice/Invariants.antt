@@ -12,8 +12,5 @@ use Rattle.checker.proofs.failing.failing_advice.Given as goal
 abbrev pub invariant-loop-number : goal.invariant-loop-number
 invariant-loop-number l =
     Laid l.nodes l.sizes.nodes l.sizes.cycles l.reach (trace_of l.sizes.cycles l.initial.columns) l.columns l.words × (length l.columns ≡ length l.initial.columns) × (length l.words ≡ length l.initial.words)
-    × (length l.rows ≡ 64) × (l.number ≤ l.many)
+    × (length l.rows ≡ 64) × (l.number ≤ l.sizes.clauses)
     × (l.advice ≡ word l.number (advised (clause_at l.nodes l.clauses) (trace_of l.sizes.cycles l.initial.columns)))
-
-abbrev pub decreases-loop-number : goal.decreases-loop-number
-decreases-loop-number l = l.many - l.number

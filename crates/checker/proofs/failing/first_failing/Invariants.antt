@@ -13,8 +13,5 @@ use Rattle.checker.proofs.failing.first_failing.Given as goal
 abbrev pub invariant-loop-k : goal.invariant-loop-k
 invariant-loop-k l =
     Laid l.nodes l.sizes.nodes l.sizes.cycles l.reach (trace_of l.sizes.cycles l.initial.columns) l.columns l.words × (length l.columns ≡ length l.initial.columns) × (length l.words ≡ length l.initial.words)
-    × (length l.rows ≡ 64) × (l.k ≤ l.many)
+    × (length l.rows ≡ 64) × (l.k ≤ l.sizes.clauses)
     × ((j : ℕ) → j < l.k → fails_as (role_of l.role) (trace_of l.sizes.cycles l.initial.columns) (clause_at l.nodes l.clauses j) ≡ false)
-
-abbrev pub decreases-loop-k : goal.decreases-loop-k
-decreases-loop-k l = l.many - l.k

@@ -13,7 +13,7 @@ use Rattle.intervals.proofs.gather.add.Goals as goal
 pub loop-b-init : goal.loop-b-init
 loop-b-init c =
     let long = c.requires.2 in
-    (long, omega arith, omega (arith, c.lesser-high.ensures), added_none _ _ long)
+    (long, omega arith, omega (arith, c.min-high.ensures), added_none _ _ long)
 
 pub loop-b-preserved : goal.loop-b-preserved
 unfolding row_at
@@ -32,8 +32,8 @@ returns c =
     let l = c.loop-b in
     let a = c.args in
     let ends = c.below-ends.ensures ∙ ap (λ (x : ℕ). word 64 (λ e. ltb e x)) c.last_name.ensures in
-    let high = c.lesser-high.ensures ∙ ap (λ (x : ℕ). min (x + 1) a.n) c.first_name.ensures.0 in
-    let end : l.b ≡ c.lesser-high.result = omega arith in
+    let high = c.min-high.ensures ∙ ap (λ (x : ℕ). min (x + 1) a.n) c.first_name.ensures.0 in
+    let end : l.b ≡ c.min-high.result = omega arith in
     let few : a.n ≤ 64 = omega arith in
     let all = added_all a.out.now l.out a.words.now a.root a.names a.short (standing a.cycles) a.n _ l.all l.b few
     (ap (λ (x : ℕ). 2 ^ 64 - 1 - x) ends) (end ∙ high) l.invariant.3 in

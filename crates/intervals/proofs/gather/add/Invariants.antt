@@ -8,6 +8,3 @@ use Rattle.intervals.proofs.gather.add.Given as goal
 abbrev pub invariant-loop-b : goal.invariant-loop-b
 invariant-loop-b l =
     (length l.out ≡ 64) × (l.b ≤ l.high) × (l.high ≤ 64) × Added l.initial.out l.out (cut_row l.words l.root l.short l.ends) l.all l.b
-
-abbrev pub decreases-loop-b : goal.decreases-loop-b
-decreases-loop-b l = l.high - l.b

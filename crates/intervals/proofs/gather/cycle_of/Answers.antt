@@ -1,12 +1,12 @@
 -- `intervals::gather::cycle_of` meets its contract.
-use mathlib.Core.Bool.{Bool, cond}
-use mathlib.Core.Path.{ap, ◌∙◌}
-use lib.ListN.{get_or}
+use Rattle.std.proofs.Common.{sym, ◌∙◌, refl}
 use Rattle.tables.specs.Table.{standing}
 use Rattle.intervals.proofs.gather.cycle_of.Goals as goal
 
-pub returns : goal.returns
+pub returns-then-has_name : goal.returns-then-has_name
 unfolding standing
-returns c =
-    let a = c.args in
-    c.choose.ensures ∙ ap (λ (t : Bool). cond t (get_or a.cycles a.u 0) a.none) c.has_name.ensures
+returns-then-has_name c = rw (sym c.has_name.ensures ∙ c.if-has_name.true) refl
+
+pub returns-else-has_name : goal.returns-else-has_name
+unfolding standing
+returns-else-has_name c = rw (sym c.has_name.ensures ∙ c.if-has_name.false) refl

@@ -13,8 +13,8 @@ unfolding first_name
 returns c =
     let a = c.args in
     let r =
-    c.lesser-3.ensures
+    c.min-3.ensures
     ∙ ap₂ (λ (x y : ℕ). min x y)
-    (c.lesser.ensures ∙ ap₂ (λ (x y : ℕ). min x y) c.cycle_of-a.ensures c.cycle_of-b.ensures)
-    (c.lesser-2.ensures ∙ ap (λ (x : ℕ). min x 63) c.cycle_of-c.ensures) in
+    (c.min.ensures ∙ ap₂ (λ (x y : ℕ). min x y) c.cycle_of-a.ensures c.cycle_of-b.ensures)
+    (c.min-2.ensures ∙ ap (λ (x : ℕ). min x 63) c.cycle_of-c.ensures) in
     (r, omega (arith, r, first_most (bit a.names) (standing a.cycles)))

@@ -7,7 +7,7 @@ use Rattle.intervals.proofs.gather.last_name.Goals as goal
 pub returns : goal.returns
 unfolding last_name
 returns c =
-    c.greater-2.ensures
+    c.max-2.ensures
     ∙ ap₂ (λ (x y : ℕ). max x y)
-    (c.greater.ensures ∙ ap₂ (λ (x y : ℕ). max x y) c.cycle_of-a.ensures c.cycle_of-b.ensures)
+    (c.max.ensures ∙ ap₂ (λ (x y : ℕ). max x y) c.cycle_of-a.ensures c.cycle_of-b.ensures)
     c.cycle_of-c.ensures

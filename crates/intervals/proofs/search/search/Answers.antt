@@ -65,7 +65,7 @@ pub returns-after-places : goal.returns-after-places
 returns-after-places c =
     let a = c.args in
     let p = c.places in
-    rw p.invariant.0 (none_found (type_of a.clause_type) a.first.now a.third.now a.answers.now a.n a.best (λ i j k h. p.invariant.2 i j k (omega (arith, c.lesser-rows.ensures))))
+    rw p.invariant.0 (none_found (type_of a.clause_type) a.first.now a.third.now a.answers.now a.n a.best (λ i j k h. p.invariant.2 i j k (omega (arith, c.min-rows.ensures))))
 
 pub returns-then-no_reply : goal.returns-then-no_reply
 returns-then-no_reply c =
@@ -76,8 +76,8 @@ returns-then-no_reply c =
     let to = c.ends-to in
     let m = c.loop-k in
     let few = c.requires.small.0 in
-    let inside : p.i < a.n = omega (arith, c.lesser-rows.ensures) in
-    rw c.lesser-place.ensures
+    let inside : p.i < a.n = omega (arith, c.min-rows.ensures) in
+    rw c.min-place.ensures
     (found_least (type_of a.clause_type) a.first.now a.third.now a.answers.now a.n p.i from.result from.ensures l.j to.result to.ensures m.k a.best
     c.requires.small.1 few inside (omega arith) (omega arith) (l.invariant.1 (omega arith)) (m.invariant.1 (omega arith))
     (sym c.no_reply.ensures ∙ c.if-no_reply.true) p.invariant.2 l.invariant.2 m.invariant.2)

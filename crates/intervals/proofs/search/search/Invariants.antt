@@ -24,6 +24,3 @@ decreases-loop-j l = l.n - l.j
 abbrev pub invariant-places : goal.invariant-places
 invariant-places l =
     (l.place ≡ l.best) × (l.i ≤ l.rows) × RowsPassed (type_of l.clause_type) l.first l.third l.answers l.n l.i
-
-abbrev pub decreases-places : goal.decreases-places
-decreases-places l = l.rows - l.i

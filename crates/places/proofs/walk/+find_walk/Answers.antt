@@ -97,8 +97,11 @@ walk-returns-then-left-eq0 t c =
     let found = refound h a.job.task (standing a.spot.cycles) r.least in
     record { laid = relaid h r.laid; rows_kept = r.rows_kept; walked = walked_find a.job a.nodes.now _ a.spot c.if-left-eq0.true c.if-job.false found }
 
-pub walk-overflow_sub-job : goal.walk-overflow_sub-job
-walk-overflow_sub-job t c = omega (arith, some_cycles c.requires.walkable)
+pub walk-cycles_of-first-requires : goal.walk-cycles_of-first-requires
+unfolding standing
+walk-cycles_of-first-requires t c =
+    let w = c.requires.walkable in
+    (w.inside.stands (3 - c.args.spot.left) (omega (arith, c.if-left-eq0.false)), few_cycles w)
 
 pub walk-loop-t-init : goal.walk-loop-t-init
 unfolding standing
@@ -109,15 +112,15 @@ walk-loop-t-init t c =
     let at = get_or a.spot.cycles u 0 in
     let stands : at < a.job.n = w.inside.stands u (omega (arith, c.if-left-eq0.false)) in
     let range = low_last c.has_name-moves.result a.job.n at stands in
-    let low = c.choose-t.ensures in
-    let last = c.choose-last.ensures in
+    let low = c.cycles_of-first.ensures.first in
+    let end = c.cycles_of-first.ensures.end in
     let h = c.hopeless.ensures.laid in (
       laid_own h,
       refl,
       refl,
       c.requires.rows_long,
       omega arith,
-      omega (arith, range.0, low, last),
+      omega (arith, range.0, low, end),
       walked_none a.job a.nodes.now _ a.best _ a.rows.now _,
     )
 
@@ -133,28 +136,15 @@ walk-walk-least-requires t c =
     let at = get_or a.spot.cycles u 0 in
     let stands : at < a.job.n = w.inside.stands u (omega (arith, c.if-left-eq0.false)) in
     let range = low_last c.has_name-moves.result a.job.n at stands in
-    let low = c.choose-t.ensures in
-    let last = c.choose-last.ensures in
+    let low = c.cycles_of-first.ensures.first in
+    let end = c.cycles_of-first.ensures.end in
     let l = c.loop-t in
     let some = c.if-left-eq0.false in
     let next = c.onto in
-    let cycle : l.t < a.job.n = omega (arith, range.1, last, c.loop-t-test.true) in (
+    let cycle : l.t < a.job.n = omega (arith, range.1, end, c.loop-t-test.true) in (
       next_below a.spot next.result l.t _ t next.ensures some c.decreases,
       (walkable_next w l.least l.t next.result next.ensures l.invariant.0 l.invariant.6.most (omega (arith, some)) cycle, l.invariant.3),
     )
-
-pub walk-overflow_add-t : goal.walk-overflow_add-t
-unfolding standing
-walk-overflow_add-t t c =
-    let w = c.requires.walkable in
-    let a = c.args in
-    let u = 3 - a.spot.left in
-    let at = get_or a.spot.cycles u 0 in
-    let stands : at < a.job.n = w.inside.stands u (omega (arith, c.if-left-eq0.false)) in
-    let range = low_last c.has_name-moves.result a.job.n at stands in
-    let low = c.choose-t.ensures in
-    let last = c.choose-last.ensures in
-    omega (arith, range.1, last, c.loop-t-test.true, few_cycles w)
 
 pub walk-loop-t-preserved : goal.walk-loop-t-preserved
 walk-loop-t-preserved t c =
@@ -181,8 +171,8 @@ walk-returns t c =
     let at = get_or a.spot.cycles u 0 in
     let stands : at < a.job.n = w.inside.stands u (omega (arith, c.if-left-eq0.false)) in
     let range = low_last c.has_name-moves.result a.job.n at stands in
-    let low = c.choose-t.ensures in
-    let last = c.choose-last.ensures in
+    let low = c.cycles_of-first.ensures.first in
+    let end = c.cycles_of-first.ensures.end in
     let l = c.loop-t in
     let h = c.hopeless.ensures.laid in
     let named = c.has_name-moves.ensures in
@@ -190,6 +180,6 @@ walk-returns t c =
       laid = relaid h l.invariant.0;
       rows_kept = l.invariant.3;
       walked = walked_level a.job a.nodes.now _ a.spot w.long (omega (arith, some)) w.three (some_cycles w)
-          (low ∙ ap (λ (x : Bool). low_of x at) named) (last ∙ ap (λ (x : Bool). last_of x a.job.n at) named) (omega (arith, l.invariant.5, c.loop-t-test.false))
+          (low ∙ ap (λ (x : Bool). low_of x at) named) (ap (λ (x : Bool). last_of x a.job.n at) named) (omega (arith, l.invariant.5, end, c.loop-t-test.false))
           (rewalked h a.job _ l.invariant.6);
     }

@@ -18,9 +18,6 @@ abbrev pub invariant-walk-loop-t : goal.invariant-walk-loop-t
 invariant-walk-loop-t l =
     Laid l.nodes l.job.count l.job.n l.reach (trace_of l.job.n l.initial.columns) l.columns l.words
     × (length l.columns ≡ length l.initial.columns) × (length l.words ≡ length l.initial.words) × (length l.rows ≡ 64)
-    × (l.initial.t ≤ l.t) × (l.t ≤ l.last + 1)
+    × (l.first ≤ l.t) × (l.t ≤ l.end)
     × Walked l.job l.nodes (trace_of l.job.n l.initial.columns) l.best l.least l.initial.rows l.rows
-    (λ q. some_from l.initial.t l.t (λ i. next_over l.job l.spot i q))
-
-abbrev pub decreases-walk-loop-t : goal.decreases-walk-loop-t
-decreases-walk-loop-t l = l.last + 1 - l.t
+    (λ q. some_from l.first l.t (λ i. next_over l.job l.spot i q))

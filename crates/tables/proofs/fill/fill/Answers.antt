@@ -25,12 +25,6 @@ put_node-requires c =
     let g = c.requires.given.0 in
     record { given = given_other _ at.words g.columned at.invariant.0 g; before = sofar_before g.few_cycles at.i at.words at.invariant.1; known_node = c.loop-i-test.true }
 
-pub overflow_add-i : goal.overflow_add-i
-overflow_add-i c = omega (arith, c.requires.given.0.few_nodes)
-
-pub loop-i-smaller : goal.loop-i-smaller
-loop-i-smaller c = omega arith
-
 pub loop-i-preserved : goal.loop-i-preserved
 unfolding apart joint entry_of
 loop-i-preserved c =

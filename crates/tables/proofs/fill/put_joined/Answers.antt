@@ -23,9 +23,6 @@ loop-b-init c =
     let q = c.requires in
     (omega arith, refl, partly_none q.given.few_cycles a.i a.words.now, sym (joined_none (row_at a.words.now c.node_at-x.result.b)), q.known_node.2)
 
-pub overflow_sub-b : goal.overflow_sub-b
-overflow_sub-b c = omega arith
-
 pub row_at-ends-requires : goal.row_at-ends-requires
 row_at-ends-requires c =
     let a = c.args in
@@ -55,9 +52,6 @@ offset_bounds-words-i c = omega (arith, c.requires.given, c.loop-b.invariant.1)
 pub bounds-words-i : goal.bounds-words-i
 bounds-words-i c = omega (arith, c.requires.given, c.loop-b.invariant.1)
 
-pub loop-b-smaller-then-ends-ne0 : goal.loop-b-smaller-then-ends-ne0
-loop-b-smaller-then-ends-ne0 c = omega arith
-
 pub loop-b-preserved-then-ends-ne0 : goal.loop-b-preserved-then-ends-ne0
 unfolding formula_op row_of
 loop-b-preserved-then-ends-ne0 c =
@@ -80,9 +74,6 @@ loop-b-preserved-then-ends-ne0 c =
       row.ensures ∙ joined_other at.words a.i (at.b - 1) row.result x.result.b ends.result (omega (arith, q.given, at.invariant.0)) apart,
       empty_set a.i at.b row.result at.words c.loop-b-test.true (omega (arith, q.given, at.invariant.0)) at.invariant.4,
     )
-
-pub loop-b-smaller : goal.loop-b-smaller
-loop-b-smaller c = omega arith
 
 pub loop-b-preserved : goal.loop-b-preserved
 unfolding formula_op row_of

@@ -33,9 +33,6 @@ loop-b-init c =
     let g = c.requires.given in
     (omega arith, refl, partly_none g.few_cycles a.i a.words.now)
 
-pub overflow_sub-b : goal.overflow_sub-b
-overflow_sub-b c = omega arith
-
 pub plain_row-row-requires : goal.plain_row-row-requires
 plain_row-row-requires c =
     let a = c.args in
@@ -56,9 +53,6 @@ offset_bounds-words-i c = omega (arith, c.requires.given, c.loop-b.invariant.1)
 
 pub bounds-words-i : goal.bounds-words-i
 bounds-words-i c = omega (arith, c.requires.given, c.loop-b.invariant.1)
-
-pub loop-b-smaller : goal.loop-b-smaller
-loop-b-smaller c = omega arith
 
 pub loop-b-preserved : goal.loop-b-preserved
 loop-b-preserved c =

@@ -24,9 +24,6 @@ loop-b-init c =
     let q = c.requires in
     (omega arith, refl, partly_none q.given.few_cycles a.i a.words.now, sym (joined_none (row_at a.words.now a.i)))
 
-pub overflow_sub-b : goal.overflow_sub-b
-overflow_sub-b c = omega arith
-
 pub row_at-requires : goal.row_at-requires
 row_at-requires c =
     let a = c.args in
@@ -55,9 +52,6 @@ offset_bounds-words-i c = omega (arith, c.requires.given, c.loop-b.invariant.1)
 
 pub bounds-words-i : goal.bounds-words-i
 bounds-words-i c = omega (arith, c.requires.given, c.loop-b.invariant.1)
-
-pub loop-b-smaller : goal.loop-b-smaller
-loop-b-smaller c = omega arith
 
 pub loop-b-preserved : goal.loop-b-preserved
 unfolding formula_op row_of
