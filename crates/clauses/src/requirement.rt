@@ -51,11 +51,8 @@ pub fn put_requirement(out: &mut [u8], nodes: &[u8], n: usize, clauses: &[u8], c
 {
     let map = copy::copy_nodes(out, nodes, n);
     let mut sides = [shared::NOTHING; SIDES];
-    let mut k = 0;
-    while k < c {
-        let d = clauses::stored_at(clauses, k);
-        sides = join_clause(out, &map, d, sides);
-        k += 1;
+    for k in 0..c {
+        sides = join_clause(out, &map, clauses::stored_at(clauses, k), sides);
     }
     let assumed = sides[clauses::ASSUMPTION];
     let committed = sides[clauses::COMMITMENT];

@@ -68,11 +68,8 @@ pub fn copy_nodes(out: &mut [u8], nodes: &[u8], n: usize) -> [usize; layout::MOS
     ensures { (Step out.old out.new (copy_costs (node_at nodes.now) n)) × (Mapped (node_at nodes.now) n out.new result) }
 {
     let mut map = [0usize; layout::MOST_NODES];
-    let mut i = 0;
-    while i < n {
-        let r = copy_node(out, &map, nodes, i);
-        map[i] = r;
-        i += 1;
+    for i in 0..n {
+        map[i] = copy_node(out, &map, nodes, i);
     }
     map
 }

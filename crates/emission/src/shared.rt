@@ -39,9 +39,7 @@ pub fn put_shared(out: &mut [u8], m: usize)
     ensures { (Ready out.new) × (Step out.old out.new (3 + 2 * m)) }
 {
     put_lengths(out);
-    let mut u = 0;
-    while u < m {
+    for u in 0..m {
         put_name(out, u);
-        u += 1;
     }
 }

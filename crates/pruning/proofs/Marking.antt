@@ -152,8 +152,8 @@ none_marked n k =
       | inr e ↦ get_or-eq_default (replicate n 0) 0 (omega (arith, length-replicate {A = ℕ} n 0, ltb-false k n e))
     ]
 
-pub first_marked : {x : ℕ → Node} {root i : ℕ} (marks : List ℕ) → root < length marks → ((k : ℕ) → entry_of marks k ≡ 0) → i ≡ root + 1 → MarkedFrom x root i (set marks root 1)
-first_marked {x} {root} {i} marks inside none e =
+pub first_marked : {x : ℕ → Node} {root : ℕ} (marks : List ℕ) → root < length marks → ((k : ℕ) → entry_of marks k ≡ 0) → MarkedFrom x root (root + 1) (set marks root 1)
+first_marked {root = root} marks inside none =
     record {
       inside = omega (arith, length-set marks root 1);
       root_live = set_live marks root inside;
@@ -165,8 +165,8 @@ first_marked {x} {root} {i} marks inside none e =
           ];
     }
 
-module _ {x : ℕ → Node} {root i j : ℕ} {marks : List ℕ} (right : (k : ℕ) → k ≤ root → operands_right emitted_sorts x k ≡ true)
-    (next : i ≡ j + 1) (some : j ≤ root) (m : MarkedFrom x root i marks) where
+module _ {x : ℕ → Node} {root j : ℕ} {marks : List ℕ} (right : (k : ℕ) → k ≤ root → operands_right emitted_sorts x k ≡ true)
+    (some : j ≤ root) (m : MarkedFrom x root (j + 1) marks) where
   -- a marked node from j on was marked before
   marked_before : (p : ℕ) → j ≤ p → Live (marked_at marks j (x j)) p → Live marks p
   marked_before p least live =
@@ -204,5 +204,5 @@ module _ {x : ℕ → Node} {root i j : ℕ} {marks : List ℕ} (right : (k : �
         parented = turn_parented;
       }
 
-pub all_marked : {x : ℕ → Node} {root i : ℕ} {marks : List ℕ} → i ≡ 0 → MarkedFrom x root i marks → MarkedFrom x root 0 marks
-all_marked {x} {root} {i} {marks} e m = subst (λ (n : ℕ). MarkedFrom x root n marks) e m
+pub marked_from : {x : ℕ → Node} {root i j : ℕ} {marks : List ℕ} → i ≡ j → MarkedFrom x root i marks → MarkedFrom x root j marks
+marked_from {x} {root} {marks = marks} e m = subst (λ (n : ℕ). MarkedFrom x root n marks) e m

@@ -27,11 +27,8 @@ fn keep_marked(out: &mut [u8], marks: &[usize], draft: &[u8], root: usize) -> us
     ensures { PrunedTo draft.now root out.old out.new result }
 {
     let mut map = [0usize; node::MOST_EMITTED];
-    let mut i = 0;
-    while i <= root {
-        let r = keep_at(out, &map, marks, draft, i);
-        map[i] = r;
-        i += 1;
+    for i in 0..=root {
+        map[i] = keep_at(out, &map, marks, draft, i);
     }
     map[root]
 }

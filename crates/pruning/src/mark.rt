@@ -62,9 +62,7 @@ pub fn mark_reached(marks: &mut [usize], draft: &[u8], root: usize)
     ensures { MarkedFrom (node_in draft.now) root 0 marks.new }
 {
     marks[root] = 1;
-    let mut i = root + 1;
-    while 0 < i {
-        i -= 1;
+    for i in (0..=root).rev() {
         mark_at(marks, draft, i);
     }
 }
