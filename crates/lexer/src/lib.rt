@@ -38,15 +38,12 @@ fn skip_blanks(table: &[u8], text: &[u8], at: usize) -> usize
     requires { table.now ≡ class_table }
     ensures { Skipped text.now at result }
 {
-    let mut i = at;
-    while i < text.len() {
-        let after = i + 1;
+    for i in at..text.len() {
         if class_of(table, text[i]) != BLANK {
             return i;
         }
-        i = after;
     }
-    i
+    at.max(text.len())
 }
 
 // The token at or after `at`.
