@@ -1,26 +1,10 @@
--- Whether a byte is among others, one after the other.
-use Prim.Native.Nat.{ℕ, ◌+◌, ◌≤◌, ◌<◌}
-use mathlib.Core.Bool.{true, false, ◌||◌}
-use mathlib.Core.List.{List}
-use mathlib.Core.Path.{◌≡◌, ◌∙◌}
-use native.Mathlib.Numerals.{add-one}
-use borrow.Author.Tests.{eq-eqb, ne_eqb}
-use lib.Dec.{eqb}
-use lib.ListN.{length, get_or, drop, drop_of_length-le}
-use lib.Seq.{drop-cons}
-use Rattle.grammar.specs.Spelled.{is_among}
+-- A byte that is one of several has the class of each of them.
+use Rattle.std.proofs.Common.{◌≡◌, ℕ, ◌⊎◌, inl, inr}
 
-module _ (b : ℕ) (bytes : List ℕ) (k : ℕ) where
-  among_step : k < length bytes → is_among b (drop k bytes) ≡ eqb b (get_or bytes k 0) || is_among b (drop (k + 1) bytes)
-  unfolding is_among
-  among_step h = rw (add-one, drop-cons bytes k 0 h)
+module _ (P : ℕ → Type 0) (b : ℕ) where
+  pub listed : (k : ℕ) {Later : Type 0} → P k → (Later → P b) → (b ≡ k) ⊎ Later → P b
+  listed k first later (inl e) = rw e first
+  listed k first later (inr more) = later more
 
-  pub among_here : k < length bytes → b ≡ get_or bytes k 0 → is_among b (drop k bytes) ≡ true
-  among_here h e = among_step h ∙ rw (eq-eqb b (get_or bytes k 0) e)
-
-  pub among_later : k < length bytes → (b ≡ get_or bytes k 0 → ⊥) → is_among b (drop k bytes) ≡ is_among b (drop (k + 1) bytes)
-  among_later h e = among_step h ∙ rw (ne_eqb b (get_or bytes k 0) e)
-
-  pub among_none : length bytes ≤ k → is_among b (drop k bytes) ≡ false
-  unfolding is_among
-  among_none h = rw (drop_of_length-le bytes h)
+  pub listed_last : (k : ℕ) → P k → b ≡ k → P b
+  listed_last k first e = rw e first

@@ -23,10 +23,8 @@ fn put_classes(out: &mut [u8], at: usize, first: usize) -> usize
     requires { (at + 16 ≤ length out.old) × (first + 16 ≤ 256) }
     ensures { Put out.old out.new at result (classes_from 16 first) }
 {
-    let mut k: usize = 0;
-    while k < 16 {
+    for k in 0..16 {
         out[at + k] = class_by_rule((first + k) as u8);
-        k += 1;
     }
     at + 16
 }
@@ -47,10 +45,8 @@ pub fn file() -> [u8; SIZE]
 {
     let mut bytes = [0; SIZE];
     let mut at = put_word(&mut bytes, 0, &OPENING);
-    let mut row: usize = 0;
-    while row < 16 {
+    for row in 0..16 {
         at = put_line(&mut bytes, at, 16 * row);
-        row += 1;
     }
     put_word(&mut bytes, at, b"\";\n");
     bytes

@@ -14,16 +14,11 @@ fn open_after(table: &[u8], depth: usize, b: u8) -> usize
     if class_of(table, b) != BRACKET {
         return depth;
     }
-    if b == b'(' {
-        return depth + 1;
+    match b {
+        b'(' => depth + 1,
+        b')' => depth.saturating_sub(1),
+        _ => depth,
     }
-    if b != b')' {
-        return depth;
-    }
-    if depth == 0 {
-        return 0;
-    }
-    depth - 1
 }
 
 // More than 32 are open at some place.
@@ -31,14 +26,12 @@ pub fn too_deep(text: &[u8]) -> bool
     ensures { result ≡ too_deep text.now }
 {
     let table = class_table();
-    let mut depth: usize = 0;
-    let mut i: usize = 0;
-    while i < text.len() {
-        depth = open_after(&table, depth, text[i]);
+    let mut depth = 0;
+    for b in text {
+        depth = open_after(&table, depth, *b);
         if 32 < depth {
             return true;
         }
-        i += 1;
     }
     false
 }

@@ -16,7 +16,7 @@ use crate::lookup::{class_of, class_table};
 use classes::{BLANK, DIGIT, LINE_END};
 
 // A word, sign or line end by its number; s0 to s15; u0 to u2; a number up to 65,535; anything else; the end of the text.
-#[derive(Drop)]
+#[derive(Clone, Copy, Debug, PartialEq, Eq)]
 pub enum Token {
     Plain(usize),
     Signal(usize),
@@ -27,7 +27,7 @@ pub enum Token {
 }
 
 // A token, and the place after it.
-#[derive(Drop)]
+#[derive(Clone, Copy, Debug, PartialEq, Eq)]
 pub struct Lexed {
     pub token: Token,
     pub at: usize,
@@ -38,15 +38,12 @@ fn skip_blanks(table: &[u8], text: &[u8], at: usize) -> usize
     requires { table.now ≡ class_table }
     ensures { Skipped text.now at result }
 {
-    let mut i = at;
-    while i < text.len() {
-        let after = i + 1;
+    for i in at..text.len() {
         if class_of(table, text[i]) != BLANK {
             return i;
         }
-        i = after;
     }
-    i
+    at.max(text.len())
 }
 
 // The token at or after `at`.

@@ -29,17 +29,18 @@ fn munch(table: &[u8], text: &[u8], at: usize) -> Numeral
     requires { (table.now ≡ class_table) × (at ≤ length text.now) }
     ensures { Munched text.now at result }
 {
-    let mut value: usize = 0;
-    let mut i = at;
-    while i < text.len() {
+    let mut value = 0;
+    for i in at..text.len() {
         let b = text[i];
         if class_of(table, b) != DIGIT {
             return Numeral { value, at: i };
         }
         value = with_digit(value, b);
-        i += 1;
     }
-    Numeral { value, at: i }
+    Numeral {
+        value,
+        at: text.len(),
+    }
 }
 
 fn number_token(value: usize) -> Token

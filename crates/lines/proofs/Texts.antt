@@ -8,7 +8,9 @@ use native.Mathlib.Omega.{arith}
 use borrow.Author.Tests.{lt-ltb, le-ltb, ltb-true, ltb-false}
 use lib.Dec.{ltb}
 use lib.ListN.{length, get_or, set, take, drop, replicate, length-append, length-replicate, get_or-replicate, get_or-eq_default, take-append-drop}
-use lib.Seq.{sets, length-sets, length-take-le, take_all, take-suc, get_or-drop}
+use borrow.Rule.Slice.PartMut.{put_mid}
+use lib.Seq.{sets, length-sets, sets-eq, take_all, take-suc, get_or-drop}
+use Rattle.std.proofs.lemmas.Slice.{put_mid-paste}
 use Rattle.semantics.proofs.Tests.{test}
 use Rattle.stored.specs.Tree.{pick}
 use Rattle.stored.proofs.Written.{sets_then, drop_after, get_or_put}
@@ -94,15 +96,12 @@ put_last {x} {y} {at} {r} n h p =
     subst (λ (l : List ℕ). Put x (set y r (48 + n % 10)) at (r + 1) l) (decimal_more n h)
     (put_then p (record { bytes = refl; end = refl }))
 
--- a word, byte by byte
-pub word_more : (x w : List ℕ) (at k : ℕ) → k < length w → set (sets x at (take k w)) (at + k) (get_or w k 0) ≡ sets x at (take (k + 1) w)
-word_more x w at k h =
-    let long = length-take-le k w (omega arith) in
-    let end : at + k ≡ at + length (take k w) = omega arith in
-    let next : suc k ≡ k + 1 = omega arith in
-    ap (λ (j : ℕ). set (sets x at (take k w)) j (get_or w k 0)) end
-    ∙ sets_then x at (take k w) (get_or w k 0 ∷ [])
-    ∙ ap (λ (l : List ℕ). sets x at l) (sym (take-suc w k 0 h) ∙ ap (λ (j : ℕ). take j w) next)
+-- bytes y copied over the part of x that has k bytes from `at` on
+pub put_part : (x y w : List ℕ) (at k : ℕ) → y ≡ w → length w ≡ k → at + length w ≤ length x → put_mid at k x y ≡ sets x at w
+put_part x y w at k same long fits =
+    put_mid-paste at k x y w (length w) same long refl
+    ∙ ap (λ (l : List ℕ). take at x ++ l ++ drop (at + length w) x) (take_all (length w) w (omega arith))
+    ∙ sym (sets-eq w x at fits)
 
 -- a text put at the start of zeros
 pub padded_put : (n : ℕ) (l : List ℕ) → length l ≤ n → sets (replicate n 0) 0 l ≡ padded n l

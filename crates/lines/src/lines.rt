@@ -7,12 +7,9 @@ pub fn put_word(out: &mut [u8], at: usize, word: &[u8]) -> usize
     requires { at + length word.now ≤ length out.old }
     ensures { Put out.old out.new at result word.now }
 {
-    let mut k = 0;
-    while k < word.len() {
-        out[at + k] = word[k];
-        k += 1;
-    }
-    at + k
+    let end = at + word.len();
+    out[at..end].copy_from_slice(word);
+    end
 }
 
 // Puts a number in decimal and gives the place after it.
@@ -35,11 +32,9 @@ pub fn put_line(out: &mut [u8], word: &[u8], numbers: &[usize]) -> usize
     ensures { Put out.old out.new 0 result (line_with word.now numbers.now) }
 {
     let mut at = put_word(out, 0, word);
-    let mut t = 0;
-    while t < numbers.len() {
+    for number in numbers {
         out[at] = b' ';
-        at = put_decimal(out, at + 1, numbers[t]);
-        t += 1;
+        at = put_decimal(out, at + 1, *number);
     }
     out[at] = b'\n';
     at + 1

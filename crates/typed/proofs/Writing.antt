@@ -1,12 +1,14 @@
 -- Laws for the code that writes drafts: an entry more, and the sheet put together from its three pieces.
-use Prim.Native.Nat.{ℕ, suc, ◌+◌, ◌*◌, ◌≤◌, ◌<◌}
+use Prim.Native.Nat.{ℕ, ◌+◌, ◌*◌, ◌≤◌, ◌<◌}
 use mathlib.Core.List.{List, ◌++◌, append_assoc}
-use mathlib.Core.Path.{◌≡◌, sym, ◌∙◌, ap, ap₂}
+use mathlib.Core.Path.{◌≡◌, refl, sym, ◌∙◌, ap, ap₂}
 use native.Mathlib.Numerals.{add-one}
 use native.Mathlib.Omega.{arith}
 use borrow.Author.Tests.{lt-ltb, le-ltb, le-leb, lt-leb}
 use lib.ListN.{length, take, drop}
-use lib.Seq.{sets, length-sets, sets-eq, paste, take-paste, drop-paste, drop-drop, take_at}
+use borrow.Rule.Slice.PartMut.{put_mid}
+use lib.Seq.{sets, length-sets, sets-eq, paste, take-paste, drop-paste, drop-drop, take_at, take_all, length-take-le}
+use Rattle.std.proofs.lemmas.Slice.{put_mid-paste}
 use Rattle.stored.proofs.Written.{drop_after}
 use Rattle.stored.specs.Written.{header_bytes, put_header}
 use Rattle.stored.specs.Layout.{requirement_kind, nodes_start, node_size, clause_size, nodes_end, clauses_end}
@@ -23,12 +25,19 @@ module _ (size most : ℕ) (entry bytes : List ℕ) (count : ℕ) where
   unfolding added
   added_none h = rw (add-one, le-ltb count most h)
 
--- places written as successors
-pub add_nine : (n : ℕ) → n + 9 ≡ suc (suc (suc (suc (suc (suc (suc (suc (suc n))))))))
-add_nine n = omega arith
+-- bytes y copied over the part of x that has k bytes from `at` on
+pub put_part : (x y w : List ℕ) (at k : ℕ) → y ≡ w → length w ≡ k → at + length w ≤ length x → put_mid at k x y ≡ sets x at w
+put_part x y w at k same long fits =
+    put_mid-paste at k x y w (length w) same long refl
+    ∙ ap (λ (l : List ℕ). take at x ++ l ++ drop (at + length w) x) (take_all (length w) w (omega arith))
+    ∙ sym (sets-eq w x at fits)
 
-pub add_ten : (n : ℕ) → n + 10 ≡ suc (suc (suc (suc (suc (suc (suc (suc (suc (suc n)))))))))
-add_ten n = omega arith
+-- and the first n bytes of s
+pub put_first : (x y s : List ℕ) (at k n : ℕ) → y ≡ take n s → n ≡ k → n ≤ length s → put_mid at k x y ≡ paste x at s n
+put_first x y s at k n same long fits =
+    let size : length (take n s) ≡ n = length-take-le n s fits in
+    put_mid-paste at k x y (take n s) n same long (sym size)
+    ∙ ap (λ (l : List ℕ). take at x ++ l ++ drop (at + n) x) (take_all n (take n s) (omega arith))
 
 -- a number of one byte
 pub in_byte_lem : (v : ℕ) → v ≤ 255 → in_byte v ≡ v

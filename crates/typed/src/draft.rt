@@ -26,20 +26,20 @@ fn write_clause(out: &mut [u8], at: usize, x: StoredClause)
     requires { (at + clause_size ≤ length out.old) × ClauseFits x }
     ensures { out.new ≡ sets out.old at (clause_bytes x) }
 {
-    let root1 = x.root1;
-    let root2 = x.root2;
-    let root3 = x.root3;
-    out[at] = x.clause_type as u8;
-    out[at + 1] = x.role as u8;
-    out[at + 2] = writer::high(root1);
-    out[at + 3] = writer::low(root1);
-    out[at + 4] = writer::high(root2);
-    out[at + 5] = writer::low(root2);
-    out[at + 6] = writer::high(root3);
-    out[at + 7] = writer::low(root3);
-    out[at + 8] = x.mask1 as u8;
-    out[at + 9] = x.mask2 as u8;
-    out[at + 10] = x.mask3 as u8;
+    let bytes = [
+        x.clause_type as u8,
+        x.role as u8,
+        writer::high(x.root1),
+        writer::low(x.root1),
+        writer::high(x.root2),
+        writer::low(x.root2),
+        writer::high(x.root3),
+        writer::low(x.root3),
+        x.mask1 as u8,
+        x.mask2 as u8,
+        x.mask3 as u8,
+    ];
+    out[at..at + layout::CLAUSE_SIZE].copy_from_slice(&bytes);
 }
 
 // One clause more, of at most 8.
@@ -68,18 +68,6 @@ pub fn in_byte(v: usize) -> usize
     if v <= 255 { v } else { 255 }
 }
 
-// The first n bytes of `from`, put into `out` at `at`.
-fn copy(out: &mut [u8], at: usize, from: &[u8], n: usize)
-    requires { (at + n ≤ length out.old) × (n ≤ length from.now) }
-    ensures { out.new ≡ paste out.old at from.now n }
-{
-    let mut i: usize = 0;
-    while i < n {
-        out[at + i] = from[i];
-        i += 1;
-    }
-}
-
 // The stored sheet of s signals, m names, n nodes and c clauses, at the front of `out`, and its length.
 pub fn assemble(
     out: &mut [u8],
@@ -94,7 +82,9 @@ pub fn assemble(
     ensures { Assembled s m (draft nodes.now n) (draft clauses.now c) out.old out.new result }
 {
     writer::put_header(out, layout::REQUIREMENT, in_byte(s), in_byte(m), n, c);
-    copy(out, layout::NODES_START, nodes, layout::NODE_SIZE * n);
-    copy(out, layout::nodes_end(n), clauses, layout::CLAUSE_SIZE * c);
-    layout::clauses_end(n, c)
+    let middle = layout::nodes_end(n);
+    let end = layout::clauses_end(n, c);
+    out[layout::NODES_START..middle].copy_from_slice(&nodes[..layout::NODE_SIZE * n]);
+    out[middle..end].copy_from_slice(&clauses[..layout::CLAUSE_SIZE * c]);
+    end
 }

@@ -9,33 +9,33 @@ use Rattle.classfile.proofs.file.Goals as goal
 
 pub loop-row-init : goal.loop-row-init
 unfolding first_lines
-loop-row-init c = (omega arith, put_size c.put_word-at.ensures, record { bytes = refl; end = omega arith })
+loop-row-init c = (put_size c.put_word-at.ensures, record { bytes = refl; end = omega arith })
 
 pub put_line-at-requires : goal.put_line-at-requires
 put_line-at-requires c =
     let at = c.loop-row in
     let opened = c.put_word-at.ensures in (
-      omega (arith, at.invariant.1, at.invariant.2.end, lines_long at.row, opened.end, c.loop-row-test.true),
-      omega (arith, c.loop-row-test.true),
+      omega (arith, at.invariant.1.end, lines_long at.row, opened.end),
+      omega arith,
     )
 
 pub loop-row-preserved : goal.loop-row-preserved
 loop-row-preserved c =
     let at = c.loop-row in
     let more = c.put_line-at.ensures in
-    (omega arith, put_size more ∙ at.invariant.1, put_line_more at.row at.invariant.2 more)
+    (put_size more ∙ at.invariant.0, put_line_more at.row at.invariant.1 more)
 
 pub put_word-requires : goal.put_word-requires
 put_word-requires c =
     let at = c.loop-row in
     let opened = c.put_word-at.ensures in
-    omega (arith, at.invariant.0, at.invariant.1, at.invariant.2.end, lines_long at.row, opened.end)
+    omega (arith, at.invariant.1.end, lines_long at.row, opened.end)
 
 pub returns : goal.returns
 unfolding opening closing table_file bytes_of bytes_from
 returns c =
     let at = c.loop-row in
     let opened = c.put_word-at.ensures in
-    let all : at.row ≡ 16 = omega (arith, at.invariant.0, c.loop-row-test.false) in
-    let lines = rw all at at.invariant.2 in
+    let all : at.row ≡ 16 = omega arith in
+    let lines = rw all at at.invariant.1 in
     put_all (put_then (put_then opened lines) c.put_word.ensures) file_long

@@ -1,13 +1,8 @@
 -- `classfile::put_classes` meets its contract.
-use Prim.Native.Nat.{◌+◌, ◌-◌, ◌≤◌}
-use mathlib.Core.Path.{◌≡◌}
-use lib.ListN.{length}
+use Rattle.std.proofs.Common.{◌≡◌, ◌+◌, length}
 use Rattle.grammar.specs.Class.{classes_from}
 use Rattle.lines.specs.Lines.{Put}
 use Rattle.classfile.proofs.put_classes.Given as goal
 
 abbrev pub invariant-loop-k : goal.invariant-loop-k
-invariant-loop-k l = (l.k ≤ 16) × (length l.out ≡ length l.initial.out) × Put l.initial.out l.out l.at (l.at + l.k) (classes_from l.k l.first)
-
-abbrev pub decreases-loop-k : goal.decreases-loop-k
-decreases-loop-k l = 16 - l.k
+invariant-loop-k l = (length l.out ≡ length l.initial.out) × Put l.initial.out l.out l.at (l.at + l.k) (classes_from l.k l.first)

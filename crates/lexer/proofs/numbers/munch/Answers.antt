@@ -12,12 +12,6 @@ use Rattle.lexer.proofs.numbers.munch.Goals as goal
 pub loop-i-init : goal.loop-i-init
 loop-i-init c = (omega arith, omega arith, refl, refl)
 
-pub bounds-text-i : goal.bounds-text-i
-bounds-text-i c = omega arith
-
-pub class_of-requires : goal.class_of-requires
-class_of-requires c = c.requires.0
-
 pub returns-then-class_of-ne-DIGIT : goal.returns-then-class_of-ne-DIGIT
 returns-then-class_of-ne-DIGIT c =
     let at = c.loop-i in
@@ -31,12 +25,6 @@ returns-then-class_of-ne-DIGIT c =
 
 pub with_digit-value-requires : goal.with_digit-value-requires
 with_digit-value-requires c = (omega arith, told is_digit digit_class digit_class_lem _ _ c.class_of.ensures c.if-class_of-ne-DIGIT.false)
-
-pub overflow_add-i : goal.overflow_add-i
-overflow_add-i c = omega arith
-
-pub loop-i-smaller : goal.loop-i-smaller
-loop-i-smaller c = omega arith
 
 pub loop-i-preserved : goal.loop-i-preserved
 loop-i-preserved c =
