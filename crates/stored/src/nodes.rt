@@ -4,50 +4,50 @@ ghost use Rattle.stored.specs.Bytes.{every_below};
 ghost use Rattle.stored.specs.Layout.{node_size};
 ghost use Rattle.stored.specs.Node.{node_at, requirement_sorts, sort_of, q_use, a_use, b_use, field_right, fields_right, node_right, sort_below, operand_right, operands_right, is_formula_node};
 
-use crate::bytes::wide;
+use crate::bytes::listed;
 use crate::{Node, bytes, layout};
 
 // The sort of each op in kind 1: 0 none, 1 proposition, 2 formula.
-const SORTS: [u8; 32] = [
+static SORTS: [u8; 32] = [
     0, 1, 1, 1, 1, 1, 1, 1, 0, 0, 0, 0, 0, 0, 0, 0, 2, 2, 2, 2, 2, 2, 2, 2, 2, 2, 2, 2, 2, 2, 0, 0,
 ];
 
 // What each op uses field q for, and then a and b: 0 nothing, 1 a signal, 2 a name, 3 a comparison, 4 a symbol, 5 two names,
 // 6 a number, 7 a proposition node, 8 a formula node.
-const Q_USES: [u8; 32] = [
+static Q_USES: [u8; 32] = [
     0, 0, 0, 0, 0, 0, 0, 0, 0, 0, 0, 0, 0, 0, 0, 0, 0, 0, 0, 0, 0, 0, 0, 0, 3, 3, 3, 4, 0, 5, 0, 0,
 ];
 
-const A_USES: [u8; 32] = [
+static A_USES: [u8; 32] = [
     0, 0, 0, 1, 2, 7, 7, 7, 0, 0, 0, 0, 0, 0, 0, 0, 7, 7, 7, 7, 8, 8, 8, 8, 0, 7, 7, 1, 2, 6, 8, 8,
 ];
 
-const B_USES: [u8; 32] = [
+static B_USES: [u8; 32] = [
     0, 0, 0, 0, 0, 0, 7, 7, 0, 0, 0, 0, 0, 0, 0, 0, 0, 0, 0, 0, 8, 8, 8, 0, 6, 6, 6, 0, 0, 6, 0, 2,
 ];
 
 pub fn sort_of(op: usize) -> usize
     ensures { result ≡ sort_of requirement_sorts op }
 {
-    if op < 32 { wide(SORTS[op]) } else { 0 }
+    listed(&SORTS, op)
 }
 
 pub fn q_use(op: usize) -> usize
     ensures { result ≡ q_use op }
 {
-    if op < 32 { wide(Q_USES[op]) } else { 0 }
+    listed(&Q_USES, op)
 }
 
 pub fn a_use(op: usize) -> usize
     ensures { result ≡ a_use op }
 {
-    if op < 32 { wide(A_USES[op]) } else { 0 }
+    listed(&A_USES, op)
 }
 
 pub fn b_use(op: usize) -> usize
     ensures { result ≡ b_use op }
 {
-    if op < 32 { wide(B_USES[op]) } else { 0 }
+    listed(&B_USES, op)
 }
 
 // Node i of a node part.
