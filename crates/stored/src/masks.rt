@@ -6,6 +6,7 @@ ghost use Rattle.stored.specs.Node.{node_at};
 ghost use Rattle.stored.specs.Reach.{name_mask, field_reach, node_reach, entry_of, reach_table};
 
 use crate::bytes::listed;
+use crate::nodes::Use;
 use crate::{Node, layout, nodes};
 use rows::mask::has;
 
@@ -34,19 +35,16 @@ pub fn entry_of(table: &[usize], i: usize) -> usize
 }
 
 // The names that a field used so reaches, by the table of earlier nodes.
-fn field_reach(table: &[usize], what: usize, v: usize) -> usize
+#[tactic(auto, unfolding(crate::specs::Reach::field_reach, crate::specs::Reach::joint))]
+fn field_reach(table: &[usize], what: Use, v: usize) -> usize
     ensures { result ≡ field_reach (entry_of table.now) what v }
 {
-    if what == 2 {
-        return name_mask(v);
+    match what {
+        Use::Name => name_mask(v),
+        Use::TwoNames => name_mask(v / 16) | name_mask(v % 16),
+        Use::PropositionNode | Use::FormulaNode => entry_of(table, v),
+        _ => 0,
     }
-    if what == 5 {
-        return name_mask(v / 16) | name_mask(v % 16);
-    }
-    if (what == 7) | (what == 8) {
-        return entry_of(table, v);
-    }
-    0
 }
 
 fn node_reach(table: &[usize], x: Node) -> usize
