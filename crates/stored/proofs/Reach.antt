@@ -14,6 +14,8 @@ use Rattle.semantics.specs.Formula.{Formula}
 use Rattle.semantics.specs.Placement.{Names, listed}
 use Rattle.semantics.specs.Reach.{proposition_within, within}
 use Rattle.stored.specs.declared.Node.{Node}
+use Rattle.stored.specs.declared.nodes.Use.{Use}
+use Rattle.stored.specs.declared.nodes.Use.TheVariants.{Nothing, Signal, Name, Comparison, Symbol, TwoNames, Number, PropositionNode, FormulaNode}
 use Rattle.stored.specs.Bytes.{every_below}
 use Rattle.stored.specs.Node.{requirement_sorts, sort_of, q_use, a_use, b_use, is_operand, field_right, fields_right, operands_right}
 use Rattle.stored.specs.Tree.{earlier, proposition_op, formula_op, proposition_of, proposition_at, formula_of, formula_at}
@@ -95,17 +97,17 @@ name_small u =
     (every_number 3 (λ k. ltb (name_mask k) 8) refl
     (λ k h. ap (λ (z : ℕ). ltb z 8) (get_or-eq_default (1 ∷ 2 ∷ 4 ∷ []) 0 h)) u)
 
-cond_small : (b : Bool) (x y : ℕ) → x < 8 → y < 8 → cond b x y < 8
-cond_small true x y p q = p
-cond_small false x y p q = q
-
-pub field_small : (r : ℕ → ℕ) (what v : ℕ) → r v < 8 → field_reach r what v < 8
+pub field_small : (r : ℕ → ℕ) (what : Use) (v : ℕ) → r v < 8 → field_reach r what v < 8
 unfolding field_reach
-field_small r what v h =
-    cond_small (eqb what 2) (name_mask v) _ (name_small v)
-    (cond_small (eqb what 5) (joint (name_mask (v / 16)) (name_mask (v % 16))) _
-    (joint_small (name_mask (v / 16)) (name_mask (v % 16)) (name_small (v / 16)) (name_small (v % 16)))
-    (cond_small (is_operand what) (r v) 0 h (omega arith)))
+field_small r Nothing v h = omega arith
+field_small r Signal v h = omega arith
+field_small r Name v h = name_small v
+field_small r Comparison v h = omega arith
+field_small r Symbol v h = omega arith
+field_small r TwoNames v h = joint_small (name_mask (v / 16)) (name_mask (v % 16)) (name_small (v / 16)) (name_small (v % 16))
+field_small r Number v h = omega arith
+field_small r PropositionNode v h = h
+field_small r FormulaNode v h = h
 
 pub node_small : (r : ℕ → ℕ) (n : Node) → ((v : ℕ) → r v < 8) → node_reach r n < 8
 unfolding node_reach
@@ -137,31 +139,20 @@ pub reach_small : (x : ℕ → Node) (i : ℕ) → reach_at x i < 8
 reach_small x i = small_below x (suc i) i (omega arith)
 
 -- a name's field is below m
-name_field : (s m what v : ℕ) → field_right s m what v ≡ true → what ≡ 2 → v < m
+name_field : (s m v : ℕ) → field_right s m Name v ≡ true → v < m
 unfolding field_right
-name_field s m what v h e =
-    ltb-true v m
-    (asked (eqb what 2) (ltb v m)
-    (and_left (not (eqb what 2) || ltb v m) _ (and_right (not (eqb what 1) || ltb v s) _ (and_right (not (eqb what 0) || eqb v 0) _ h)))
-    (eq-eqb what 2 e))
+name_field s m v h = ltb-true v m h
 
-record TwoNames (m v : ℕ) : Type 0 where
+record BothNames (m v : ℕ) : Type 0 where
   pub first : v / 16 < m
   pub second : v % 16 < m
 
-names_field : (s m what v : ℕ) → field_right s m what v ≡ true → what ≡ 5 → TwoNames m v
+names_field : (s m v : ℕ) → field_right s m TwoNames v ≡ true → BothNames m v
 unfolding field_right
-names_field s m what v h e =
-    let both =
-    asked (eqb what 5) (ltb (v / 16) m && ltb (v % 16) m)
-    (and_right (not (eqb what 4) || ltb v 8) _
-    (and_right (not (eqb what 3) || ltb v 5) _
-    (and_right (not (eqb what 2) || ltb v m) _ (and_right (not (eqb what 1) || ltb v s) _ (and_right (not (eqb what 0) || eqb v 0) _ h)))))
-    (eq-eqb what 5 e)
-    in
+names_field s m v h =
     record {
-      first = ltb-true (v / 16) m (and_left (ltb (v / 16) m) (ltb (v % 16) m) both);
-      second = ltb-true (v % 16) m (and_right (ltb (v / 16) m) (ltb (v % 16) m) both);
+      first = ltb-true (v / 16) m (and_left (ltb (v / 16) m) (ltb (v % 16) m) h);
+      second = ltb-true (v % 16) m (and_right (ltb (v / 16) m) (ltb (v % 16) m) h);
     }
 
 -- one node: what holds of its operands holds of it
@@ -173,8 +164,8 @@ module _ (names : Names) (s m : ℕ) (three : m ≤ 3) (n : Node) (r : ℕ → �
   Proposed p k =
       sort_of requirement_sorts k ≡ 1
       → field_right s m (a_use k) n.a ≡ true
-      → (a_use k ≡ 7 → proposition_within names (p n.a) ≡ covers (r n.a) names)
-      → (b_use k ≡ 7 → proposition_within names (p n.b) ≡ covers (r n.b) names)
+      → (a_use k ≡ PropositionNode → proposition_within names (p n.a) ≡ covers (r n.a) names)
+      → (b_use k ≡ PropositionNode → proposition_within names (p n.b) ≡ covers (r n.b) names)
       → proposition_within names (proposition_of (proposition_op k) n p) ≡ covers (reached k) names
 
   two : (v w : ℕ) (a b : Bool) → a ≡ covers (r v) names → b ≡ covers (r w) names → (a && b) ≡ covers (joint 0 (joint (r v) (r w))) names
@@ -199,7 +190,7 @@ module _ (names : Names) (s m : ℕ) (three : m ≤ 3) (n : Node) (r : ℕ → �
       (λ o f g h. none)
       (λ o f g h. none)
       (λ o f g h. none)
-      (λ o f g h. named n.a (name_field s m 2 n.a f refl))
+      (λ o f g h. named n.a (name_field s m n.a f))
       (λ o f g h. one n.a _ (g refl))
       (λ o f g h. two n.a n.b _ _ (g refl) (h refl))
       (λ o f g h. two n.a n.b _ _ (g refl) (h refl))
@@ -211,12 +202,12 @@ module _ (names : Names) (s m : ℕ) (three : m ≤ 3) (n : Node) (r : ℕ → �
       sort_of requirement_sorts k ≡ 2
       → field_right s m (q_use k) n.q ≡ true
       → field_right s m (a_use k) n.a ≡ true
-      → (a_use k ≡ 7 → proposition_within names (p n.a) ≡ covers (r n.a) names)
-      → (a_use k ≡ 8 → within names (t n.a) ≡ covers (r n.a) names)
-      → (b_use k ≡ 8 → within names (t n.b) ≡ covers (r n.b) names)
+      → (a_use k ≡ PropositionNode → proposition_within names (p n.a) ≡ covers (r n.a) names)
+      → (a_use k ≡ FormulaNode → within names (t n.a) ≡ covers (r n.a) names)
+      → (b_use k ≡ FormulaNode → within names (t n.b) ≡ covers (r n.b) names)
       → within names (formula_of (formula_op k) n p t) ≡ covers (reached k) names
 
-  gapped : TwoNames m n.q → (names (n.q / 16) && names (n.q % 16)) ≡ covers (joint (joint (name_mask (n.q / 16)) (name_mask (n.q % 16))) (joint 0 0)) names
+  gapped : BothNames m n.q → (names (n.q / 16) && names (n.q % 16)) ≡ covers (joint (joint (name_mask (n.q / 16)) (name_mask (n.q % 16))) (joint 0 0)) names
   gapped h =
       let u = n.q / 16 in
       let v = n.q % 16 in
@@ -241,8 +232,8 @@ module _ (names : Names) (s m : ℕ) (three : m ≤ 3) (n : Node) (r : ℕ → �
       (λ o e f g h i. one n.a _ (g refl))
       (λ o e f g h i. one n.a _ (g refl))
       (λ o e f g h i. none)
-      (λ o e f g h i. named n.a (name_field s m 2 n.a f refl))
-      (λ o e f g h i. gapped (names_field s m 5 n.q e refl))
+      (λ o e f g h i. named n.a (name_field s m n.a f))
+      (λ o e f g h i. gapped (names_field s m n.q e))
       (λ o e f g h i. absurd (omega arith))
       (λ o e f g h i. absurd (omega arith))
       k

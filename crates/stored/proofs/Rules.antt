@@ -154,3 +154,16 @@ pub shift_one : (m : ℕ) → m < 64 → 1 * 2 ^ m % 18446744073709551616 ≡ 2 
 shift_one m h =
     let fits : 2 ^ m < 2 ^ 64 = pow-lt h in
     rw one-mul (mod-eq_of_lt fits)
+
+-- what holds of each of some numbers in a row, one by one
+abbrev pub Each : (ℕ → Type 0) → ℕ → ℕ → Type 0
+Each P low zero = Unit {0}
+Each P low (suc many) = P low × Each P (suc low) many
+
+pub each_between : (P : ℕ → Type 0) (low many : ℕ) → Each P low many → (k : ℕ) → low ≤ k → k < low + many → P k
+each_between P low zero e k l h = absurd (omega arith)
+each_between P low (suc many) e k l h =
+    elim (test (eqb low k)) [
+      | inl s ↦ subst P (eqb-true low k s) e.0
+      | inr s ↦ let other = eqb-false low k s in each_between P (suc low) many e.1 k (omega arith) (omega arith)
+    ]

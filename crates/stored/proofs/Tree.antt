@@ -10,6 +10,8 @@ use lib.ListN.{length, get_or-eq_default}
 use Rattle.semantics.specs.Proposition.{Proposition, never, both_of, either_of, negated}
 use Rattle.semantics.specs.Formula.{Formula, below, slen, chop, conjunction, disjunction, star, negation, for_some, point, stretch, whole, unit, scount, sdur}
 use Rattle.stored.specs.declared.Node.{Node}
+use Rattle.stored.specs.declared.nodes.Use.{Use}
+use Rattle.stored.specs.declared.nodes.Use.TheVariants.{PropositionNode, FormulaNode}
 use Rattle.stored.specs.Bytes.{every_below}
 use Rattle.stored.specs.Node.{requirement_sorts, emitted_sorts, sort_of, sort_below, a_use, b_use, operand_right, operands_right}
 use Rattle.stored.specs.Tree.{earlier, PropositionOp, never_op, always_op, signal_op, name_op, negated_op, both_op, either_op, no_proposition, FormulaOp, point_op, stretch_op, whole_op, unit_op, chop_op, conjunction_op, disjunction_op, star_op, slen_op, scount_op, sdur_op, drawn_op, at_op, gap_op, negation_op, for_some_op, no_formula, proposition_op, formula_ops, formula_op, proposition_of, proposition_step, proposition_at, formula_of, formula_step, formula_at}
@@ -169,26 +171,22 @@ sort_below_lem sorts x i v k p h = go (ltb v i) refl h
     go true e h = record { less = ltb-true v i e; sorted = h }
     go false e h = absurd (omega arith)
 
-pub operand_proposition : (sorts : List ℕ) (x : ℕ → Node) (i what v : ℕ) → operand_right sorts x i what v ≡ true → what ≡ 7 → Earlier sorts x i v 1
+pub operand_proposition : (sorts : List ℕ) (x : ℕ → Node) (i : ℕ) (what : Use) (v : ℕ) → operand_right sorts x i what v ≡ true → what ≡ PropositionNode → Earlier sorts x i v 1
 unfolding operand_right
 operand_proposition sorts x i what v h e =
-    let sort = sort_below sorts x i v in
-    let first = and_left (not (eqb what 7) || eqb sort 1) (not (eqb what 8) || eqb sort 2) h in
-    sort_below_lem sorts x i v 1 (omega arith) (eqb-true sort 1 (asked (eqb what 7) (eqb sort 1) first (eq-eqb what 7 e)))
+    sort_below_lem sorts x i v 1 (omega arith) (eqb-true (sort_below sorts x i v) 1 (subst (λ (w : Use). operand_right sorts x i w v ≡ true) e h))
 
-pub operand_formula : (sorts : List ℕ) (x : ℕ → Node) (i what v : ℕ) → operand_right sorts x i what v ≡ true → what ≡ 8 → Earlier sorts x i v 2
+pub operand_formula : (sorts : List ℕ) (x : ℕ → Node) (i : ℕ) (what : Use) (v : ℕ) → operand_right sorts x i what v ≡ true → what ≡ FormulaNode → Earlier sorts x i v 2
 unfolding operand_right
 operand_formula sorts x i what v h e =
-    let sort = sort_below sorts x i v in
-    let second = and_right (not (eqb what 7) || eqb sort 1) (not (eqb what 8) || eqb sort 2) h in
-    sort_below_lem sorts x i v 2 (omega arith) (eqb-true sort 2 (asked (eqb what 8) (eqb sort 2) second (eq-eqb what 8 e)))
+    sort_below_lem sorts x i v 2 (omega arith) (eqb-true (sort_below sorts x i v) 2 (subst (λ (w : Use). operand_right sorts x i w v ≡ true) e h))
 
 -- the operands of a node that rule 7 takes
 pub record Operands (sorts : List ℕ) (x : ℕ → Node) (i : ℕ) : Type 0 where
-  pub a_proposition : a_use (x i).op ≡ 7 → Earlier sorts x i (x i).a 1
-  pub a_formula : a_use (x i).op ≡ 8 → Earlier sorts x i (x i).a 2
-  pub b_proposition : b_use (x i).op ≡ 7 → Earlier sorts x i (x i).b 1
-  pub b_formula : b_use (x i).op ≡ 8 → Earlier sorts x i (x i).b 2
+  pub a_proposition : a_use (x i).op ≡ PropositionNode → Earlier sorts x i (x i).a 1
+  pub a_formula : a_use (x i).op ≡ FormulaNode → Earlier sorts x i (x i).a 2
+  pub b_proposition : b_use (x i).op ≡ PropositionNode → Earlier sorts x i (x i).b 1
+  pub b_formula : b_use (x i).op ≡ FormulaNode → Earlier sorts x i (x i).b 2
 
 pub operands : (sorts : List ℕ) (x : ℕ → Node) (i : ℕ) → operands_right sorts x i ≡ true → Operands sorts x i
 unfolding operands_right
@@ -206,8 +204,8 @@ operands sorts x i h =
 -- a node goes by the operands that its op uses
 SameProposition : Node → (ℕ → Proposition) → (ℕ → Proposition) → ℕ → Type 0
 SameProposition n p p' k =
-    (a_use k ≡ 7 → p n.a ≡ p' n.a)
-    → (b_use k ≡ 7 → p n.b ≡ p' n.b)
+    (a_use k ≡ PropositionNode → p n.a ≡ p' n.a)
+    → (b_use k ≡ PropositionNode → p n.b ≡ p' n.b)
     → proposition_of (proposition_op k) n p ≡ proposition_of (proposition_op k) n p'
 
 same_proposition : (n : Node) (p p' : ℕ → Proposition) (k : ℕ) → SameProposition n p p' k
@@ -226,9 +224,9 @@ same_proposition n p p' k =
 
 SameFormula : Node → (ℕ → Proposition) → (ℕ → Proposition) → (ℕ → Formula) → (ℕ → Formula) → ℕ → Type 0
 SameFormula n p p' f f' k =
-    (a_use k ≡ 7 → p n.a ≡ p' n.a)
-    → (a_use k ≡ 8 → f n.a ≡ f' n.a)
-    → (b_use k ≡ 8 → f n.b ≡ f' n.b)
+    (a_use k ≡ PropositionNode → p n.a ≡ p' n.a)
+    → (a_use k ≡ FormulaNode → f n.a ≡ f' n.a)
+    → (b_use k ≡ FormulaNode → f n.b ≡ f' n.b)
     → formula_of (formula_op k) n p f ≡ formula_of (formula_op k) n p' f'
 
 same_formula : (n : Node) (p p' : ℕ → Proposition) (f f' : ℕ → Formula) (k : ℕ) → SameFormula n p p' f f' k

@@ -1,9 +1,9 @@
 -- On every way from the root of an emitted formula to a name, the name is quantified.
 use Prim.Native.Nat.{ℕ, ◌<◌}
-use mathlib.Core.Bool.{true}
+use mathlib.Core.Bool.{true, false≢true}
 use mathlib.Core.List.{List}
 use mathlib.Core.Logic.{inl, inr}
-use mathlib.Core.Path.{◌≡◌, sym, ◌∙◌, ap, subst}
+use mathlib.Core.Path.{◌≡◌, refl, sym, ◌∙◌, ap, subst}
 use native.Mathlib.Omega.{arith}
 use borrow.Author.Tests.{eqb-true}
 use lib.Dec.{eqb}
@@ -13,6 +13,8 @@ use Rattle.semantics.specs.Placement.{Names, no_names}
 use Rattle.semantics.specs.Reach.{proposition_within, with, within}
 use Rattle.semantics.proofs.Tests.{and_left, and_right, or_elim}
 use Rattle.stored.specs.declared.Node.{Node}
+use Rattle.stored.specs.declared.nodes.Use.{Use}
+use Rattle.stored.specs.declared.nodes.Use.TheVariants.{Nothing, Signal, Name, Comparison, Symbol, TwoNames, Number, PropositionNode, FormulaNode}
 use Rattle.stored.specs.Node.{emitted_sorts, sort_of, is_formula_node, is_operand, a_use, b_use, operands_right}
 use Rattle.stored.specs.Tree.{pick, proposition_op, formula_op, proposition_of, proposition_at, formula_of, formula_at}
 use Rattle.stored.specs.Reached.{is_node, has_operand, Reached, itself, operand, under, Way, start, down, SomeWay}
@@ -23,21 +25,25 @@ use Rattle.stored.proofs.Tree.{Operands, operands, sort_below_lem, proposition_c
 use Rattle.stored.proofs.Emitted.{emitted_opened}
 
 -- ---- an operand is field a or field b, used as a proposition or as a formula
-pub data Use (what : ℕ) : Type 0 where
-  as_proposition : what ≡ 7 → Use what
-  as_formula : what ≡ 8 → Use what
+pub data OperandUse (what : Use) : Type 0 where
+  as_proposition : what ≡ PropositionNode → OperandUse what
+  as_formula : what ≡ FormulaNode → OperandUse what
 
-pub use-of : (what : ℕ) → is_operand what ≡ true → Use what
+pub use-of : (what : Use) → is_operand what ≡ true → OperandUse what
 unfolding is_operand
-use-of what e =
-    elim (or_elim (eqb what 7) (eqb what 8) e) [
-      | inl h ↦ as_proposition (eqb-true what 7 h)
-      | inr h ↦ as_formula (eqb-true what 8 h)
-    ]
+use-of PropositionNode e = as_proposition refl
+use-of FormulaNode e = as_formula refl
+use-of Nothing e = absurd (false≢true e)
+use-of Signal e = absurd (false≢true e)
+use-of Name e = absurd (false≢true e)
+use-of Comparison e = absurd (false≢true e)
+use-of Symbol e = absurd (false≢true e)
+use-of TwoNames e = absurd (false≢true e)
+use-of Number e = absurd (false≢true e)
 
 pub data OperandOf (n : Node) (i : ℕ) : Type 0 where
-  in_a : Use (a_use n.op) → n.a ≡ i → OperandOf n i
-  in_b : Use (b_use n.op) → n.b ≡ i → OperandOf n i
+  in_a : OperandUse (a_use n.op) → n.a ≡ i → OperandOf n i
+  in_b : OperandUse (b_use n.op) → n.b ≡ i → OperandOf n i
 
 pub operand_of : (n : Node) (i : ℕ) → has_operand n i ≡ true → OperandOf n i
 unfolding has_operand is_node
@@ -62,19 +68,10 @@ under_op : ℕ → ℕ → Names → Names
 under_op k b K = pick (eqb k 31) (with b K) K
 
 -- field v, used so, has names of K only
-record Held (K : Names) (p : ℕ → Proposition) (f : ℕ → Formula) (what v : ℕ) : Type 0 where
-  proposition : what ≡ 7 → proposition_within K (p v) ≡ true
-  formula : what ≡ 8 → within K (f v) ≡ true
-
-module _ {K : Names} {p : ℕ → Proposition} {f : ℕ → Formula} {v : ℕ} where
-  holds_proposition : proposition_within K (p v) ≡ true → Held K p f 7 v
-  holds_proposition h = record { proposition = λ e. h; formula = λ e. absurd (omega arith) }
-
-  holds_formula : within K (f v) ≡ true → Held K p f 8 v
-  holds_formula h = record { proposition = λ e. absurd (omega arith); formula = λ e. h }
-
-  holds_value : (what : ℕ) → what < 7 → Held K p f what v
-  holds_value what l = record { proposition = λ e. absurd (omega arith); formula = λ e. absurd (omega arith) }
+Held : Names → (ℕ → Proposition) → (ℕ → Formula) → Use → ℕ → Type 0
+Held K p f PropositionNode v = proposition_within K (p v) ≡ true
+Held K p f FormulaNode v = within K (f v) ≡ true
+Held K p f _ v = Unit {0}
 
 Lower : Node → (ℕ → Proposition) → (ℕ → Formula) → Names → ℕ → Type 0
 Lower n p f K k = (Held (under_op k n.b K) p f (a_use k) n.a) × (Held (under_op k n.b K) p f (b_use k) n.b)
@@ -86,39 +83,39 @@ LowerFormula : Node → (ℕ → Proposition) → (ℕ → Formula) → Names �
 LowerFormula n p f K k = sort_of emitted_sorts k ≡ 2 → within K (formula_of (formula_op k) n p f) ≡ true → Lower n p f K k
 
 lower_proposition : (n : Node) (p : ℕ → Proposition) (f : ℕ → Formula) (K : Names) (k : ℕ) → LowerProposition n p f K k
-unfolding LowerProposition Lower under_op pick a_use b_use proposition_of proposition_op proposition_within
+unfolding LowerProposition Lower Held under_op pick a_use b_use proposition_of proposition_op proposition_within
 lower_proposition n p f K k =
     proposition_cases (LowerProposition n p f K)
-    (λ s h. (holds_value 0 (omega arith), holds_value 0 (omega arith)))
-    (λ s h. (holds_value 0 (omega arith), holds_value 0 (omega arith)))
-    (λ s h. (holds_value 1 (omega arith), holds_value 0 (omega arith)))
-    (λ s h. (holds_value 2 (omega arith), holds_value 0 (omega arith)))
-    (λ s h. (holds_proposition h, holds_value 0 (omega arith)))
-    (λ s h. (holds_proposition (and_left (proposition_within K (p n.a)) _ h), holds_proposition (and_right (proposition_within K (p n.a)) _ h)))
-    (λ s h. (holds_proposition (and_left (proposition_within K (p n.a)) _ h), holds_proposition (and_right (proposition_within K (p n.a)) _ h)))
+    (λ s h. (tt, tt))
+    (λ s h. (tt, tt))
+    (λ s h. (tt, tt))
+    (λ s h. (tt, tt))
+    (λ s h. (h, tt))
+    (λ s h. (and_left (proposition_within K (p n.a)) _ h, and_right (proposition_within K (p n.a)) _ h))
+    (λ s h. (and_left (proposition_within K (p n.a)) _ h, and_right (proposition_within K (p n.a)) _ h))
     k
     (λ e s h. absurd (emitted_proposition k s e))
 
 lower_formula : (n : Node) (p : ℕ → Proposition) (f : ℕ → Formula) (K : Names) (k : ℕ) → LowerFormula n p f K k
-unfolding LowerFormula Lower under_op pick a_use b_use formula_of formula_op within
+unfolding LowerFormula Lower Held under_op pick a_use b_use formula_of formula_op within
 lower_formula n p f K k =
     formula_cases (LowerFormula n p f K)
-    (λ s h. (holds_proposition h, holds_value 0 (omega arith)))
-    (λ s h. (holds_proposition h, holds_value 0 (omega arith)))
-    (λ s h. (holds_proposition h, holds_value 0 (omega arith)))
-    (λ s h. (holds_proposition h, holds_value 0 (omega arith)))
-    (λ s h. (holds_formula (and_left (within K (f n.a)) _ h), holds_formula (and_right (within K (f n.a)) _ h)))
-    (λ s h. (holds_formula (and_left (within K (f n.a)) _ h), holds_formula (and_right (within K (f n.a)) _ h)))
-    (λ s h. (holds_formula (and_left (within K (f n.a)) _ h), holds_formula (and_right (within K (f n.a)) _ h)))
-    (λ s h. (holds_formula h, holds_value 0 (omega arith)))
-    (λ s h. (holds_value 0 (omega arith), holds_value 6 (omega arith)))
-    (λ s h. (holds_proposition h, holds_value 6 (omega arith)))
-    (λ s h. (holds_proposition h, holds_value 6 (omega arith)))
-    (λ s h. (holds_value 1 (omega arith), holds_value 0 (omega arith)))
-    (λ s h. (holds_value 2 (omega arith), holds_value 0 (omega arith)))
-    (λ s h. (holds_value 6 (omega arith), holds_value 6 (omega arith)))
-    (λ s h. (holds_formula h, holds_value 0 (omega arith)))
-    (λ s h. (holds_formula h, holds_value 2 (omega arith)))
+    (λ s h. (h, tt))
+    (λ s h. (h, tt))
+    (λ s h. (h, tt))
+    (λ s h. (h, tt))
+    (λ s h. (and_left (within K (f n.a)) _ h, and_right (within K (f n.a)) _ h))
+    (λ s h. (and_left (within K (f n.a)) _ h, and_right (within K (f n.a)) _ h))
+    (λ s h. (and_left (within K (f n.a)) _ h, and_right (within K (f n.a)) _ h))
+    (λ s h. (h, tt))
+    (λ s h. (tt, tt))
+    (λ s h. (h, tt))
+    (λ s h. (h, tt))
+    (λ s h. (tt, tt))
+    (λ s h. (tt, tt))
+    (λ s h. (tt, tt))
+    (λ s h. (h, tt))
+    (λ s h. (h, tt))
     k
     (λ e s h. absurd (emitted_formula_lem k s e))
 
@@ -139,14 +136,17 @@ module _ (x : ℕ → Node) (n : ℕ) (right : (i : ℕ) → i < n → operands_
       (ap (within K) (sym (formula_law emitted_sorts x j (right j l))) ∙ h)
 
   closed_down : (K : Names) (j i : ℕ) → j < n → Closed x K j → has_operand (x j) i ≡ true → Closed x (under (x j) K) i
-  unfolding Lower under_op under
+  unfolding Lower Held under_op under
   closed_down K j i l c e = go (operands emitted_sorts x j (right j l)) (lower K j l c) (operand_of (x j) i e)
     where
+      holds : ℕ → Use → Type 0
+      holds v what = Held (under (x j) K) (proposition_at x) (formula_at x) what v
+
       go : Operands emitted_sorts x j → Lower (x j) (proposition_at x) (formula_at x) K (x j).op → OperandOf (x j) i → Closed x (under (x j) K) i
-      go o h (in_a (as_proposition u) is) = subst (Closed x (under (x j) K)) is (closed_proposition (o.a_proposition u).sorted (h.0.proposition u))
-      go o h (in_a (as_formula u) is) = subst (Closed x (under (x j) K)) is (closed_formula (o.a_formula u).sorted (h.0.formula u))
-      go o h (in_b (as_proposition u) is) = subst (Closed x (under (x j) K)) is (closed_proposition (o.b_proposition u).sorted (h.1.proposition u))
-      go o h (in_b (as_formula u) is) = subst (Closed x (under (x j) K)) is (closed_formula (o.b_formula u).sorted (h.1.formula u))
+      go o h (in_a (as_proposition u) is) = subst (Closed x (under (x j) K)) is (closed_proposition (o.a_proposition u).sorted (subst (holds (x j).a) u h.0))
+      go o h (in_a (as_formula u) is) = subst (Closed x (under (x j) K)) is (closed_formula (o.a_formula u).sorted (subst (holds (x j).a) u h.0))
+      go o h (in_b (as_proposition u) is) = subst (Closed x (under (x j) K)) is (closed_proposition (o.b_proposition u).sorted (subst (holds (x j).b) u h.1))
+      go o h (in_b (as_formula u) is) = subst (Closed x (under (x j) K)) is (closed_formula (o.b_formula u).sorted (subst (holds (x j).b) u h.1))
 
   module _ (r : ℕ) (below : r < n) (sorted : sort_of emitted_sorts (x r).op ≡ 2) (closed : within no_names (formula_at x r) ≡ true) where
     way_closed : (K : Names) (i : ℕ) → Way x r K i → (i < n) × (Closed x K i)

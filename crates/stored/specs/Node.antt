@@ -1,6 +1,8 @@
 -- Document 01, "The stored sheet": a node's fields, what each op uses them for, and rules 6 and 7 at one node.
-use Rattle.std.specs.Prelude.{ℕ, ◌+◌, ◌*◌, ◌/◌, ◌%◌, Bool, not, cond, ◌&&◌, ◌||◌, List, [], ◌∷◌, leb, ltb, eqb, get_or}
+use Rattle.std.specs.Prelude.{ℕ, ◌+◌, ◌*◌, ◌/◌, ◌%◌, Bool, true, false, not, cond, ◌&&◌, ◌||◌, List, [], ◌∷◌, leb, ltb, eqb, get_or}
 use Rattle.stored.specs.declared.Node.{Node}
+use Rattle.stored.specs.declared.nodes.Use.{Use}
+use Rattle.stored.specs.declared.nodes.Use.TheVariants.{Nothing, Signal, Name, Comparison, Symbol, TwoNames, Number, PropositionNode, FormulaNode}
 use Rattle.stored.specs.Bytes.{word}
 use Rattle.stored.specs.Layout.{node_size}
 
@@ -35,45 +37,52 @@ emitted_sorts =
 unfoldable pub sort_of : List ℕ → ℕ → ℕ
 sort_of sorts op = get_or sorts op 0
 
--- What an op uses a field for: 0 nothing, 1 a signal, 2 a name, 3 a comparison, 4 a symbol, 5 two names, 6 a number,
--- 7 a proposition node, 8 a formula node. By op, from 0 to 31.
-abbrev pub q_uses : List ℕ
+-- What an op uses a field for, by op from 0 to 31.
+abbrev pub q_uses : List Use
 q_uses =
-    0 ∷ 0 ∷ 0 ∷ 0 ∷ 0 ∷ 0 ∷ 0 ∷ 0 ∷ 0 ∷ 0 ∷ 0 ∷ 0 ∷ 0 ∷ 0 ∷ 0 ∷ 0
-    ∷ 0 ∷ 0 ∷ 0 ∷ 0 ∷ 0 ∷ 0 ∷ 0 ∷ 0 ∷ 3 ∷ 3 ∷ 3 ∷ 4 ∷ 0 ∷ 5 ∷ 0 ∷ 0 ∷ []
+    Nothing ∷ Nothing ∷ Nothing ∷ Nothing ∷ Nothing ∷ Nothing ∷ Nothing ∷ Nothing
+    ∷ Nothing ∷ Nothing ∷ Nothing ∷ Nothing ∷ Nothing ∷ Nothing ∷ Nothing ∷ Nothing
+    ∷ Nothing ∷ Nothing ∷ Nothing ∷ Nothing ∷ Nothing ∷ Nothing ∷ Nothing ∷ Nothing
+    ∷ Comparison ∷ Comparison ∷ Comparison ∷ Symbol ∷ Nothing ∷ TwoNames ∷ Nothing ∷ Nothing ∷ []
 
-abbrev pub a_uses : List ℕ
+abbrev pub a_uses : List Use
 a_uses =
-    0 ∷ 0 ∷ 0 ∷ 1 ∷ 2 ∷ 7 ∷ 7 ∷ 7 ∷ 0 ∷ 0 ∷ 0 ∷ 0 ∷ 0 ∷ 0 ∷ 0 ∷ 0
-    ∷ 7 ∷ 7 ∷ 7 ∷ 7 ∷ 8 ∷ 8 ∷ 8 ∷ 8 ∷ 0 ∷ 7 ∷ 7 ∷ 1 ∷ 2 ∷ 6 ∷ 8 ∷ 8 ∷ []
+    Nothing ∷ Nothing ∷ Nothing ∷ Signal ∷ Name ∷ PropositionNode ∷ PropositionNode ∷ PropositionNode
+    ∷ Nothing ∷ Nothing ∷ Nothing ∷ Nothing ∷ Nothing ∷ Nothing ∷ Nothing ∷ Nothing
+    ∷ PropositionNode ∷ PropositionNode ∷ PropositionNode ∷ PropositionNode ∷ FormulaNode ∷ FormulaNode ∷ FormulaNode ∷ FormulaNode
+    ∷ Nothing ∷ PropositionNode ∷ PropositionNode ∷ Signal ∷ Name ∷ Number ∷ FormulaNode ∷ FormulaNode ∷ []
 
-abbrev pub b_uses : List ℕ
+abbrev pub b_uses : List Use
 b_uses =
-    0 ∷ 0 ∷ 0 ∷ 0 ∷ 0 ∷ 0 ∷ 7 ∷ 7 ∷ 0 ∷ 0 ∷ 0 ∷ 0 ∷ 0 ∷ 0 ∷ 0 ∷ 0
-    ∷ 0 ∷ 0 ∷ 0 ∷ 0 ∷ 8 ∷ 8 ∷ 8 ∷ 0 ∷ 6 ∷ 6 ∷ 6 ∷ 0 ∷ 0 ∷ 6 ∷ 0 ∷ 2 ∷ []
+    Nothing ∷ Nothing ∷ Nothing ∷ Nothing ∷ Nothing ∷ Nothing ∷ PropositionNode ∷ PropositionNode
+    ∷ Nothing ∷ Nothing ∷ Nothing ∷ Nothing ∷ Nothing ∷ Nothing ∷ Nothing ∷ Nothing
+    ∷ Nothing ∷ Nothing ∷ Nothing ∷ Nothing ∷ FormulaNode ∷ FormulaNode ∷ FormulaNode ∷ Nothing
+    ∷ Number ∷ Number ∷ Number ∷ Nothing ∷ Nothing ∷ Number ∷ Nothing ∷ Name ∷ []
 
-unfoldable pub q_use : ℕ → ℕ
-q_use op = get_or q_uses op 0
+unfoldable pub q_use : ℕ → Use
+q_use op = get_or q_uses op Nothing
 
-unfoldable pub a_use : ℕ → ℕ
-a_use op = get_or a_uses op 0
+unfoldable pub a_use : ℕ → Use
+a_use op = get_or a_uses op Nothing
 
-unfoldable pub b_use : ℕ → ℕ
-b_use op = get_or b_uses op 0
+unfoldable pub b_use : ℕ → Use
+b_use op = get_or b_uses op Nothing
 
 -- a field used so is the number of a node
-unfoldable pub is_operand : ℕ → Bool
-is_operand what = eqb what 7 || eqb what 8
+unfoldable pub is_operand : Use → Bool
+is_operand PropositionNode = true
+is_operand FormulaNode = true
+is_operand _ = false
 
 -- a field of value v, used so, on a sheet of s signals and m names: zero if unused, in range if used
-unfoldable pub field_right : ℕ → ℕ → ℕ → ℕ → Bool
-field_right s m what v =
-    (not (eqb what 0) || eqb v 0)
-    && ((not (eqb what 1) || ltb v s)
-    && ((not (eqb what 2) || ltb v m)
-    && ((not (eqb what 3) || ltb v 5)
-    && ((not (eqb what 4) || ltb v 8)
-    && (not (eqb what 5) || (ltb (v / 16) m && ltb (v % 16) m))))))
+unfoldable pub field_right : ℕ → ℕ → Use → ℕ → Bool
+field_right s m Nothing v = eqb v 0
+field_right s m Signal v = ltb v s
+field_right s m Name v = ltb v m
+field_right s m Comparison v = ltb v 5
+field_right s m Symbol v = ltb v 8
+field_right s m TwoNames v = ltb (v / 16) m && ltb (v % 16) m
+field_right s m _ v = true
 
 -- Rule 6 at one node: its op is one of the kind, its fields are right, and a gap has a ≤ b.
 unfoldable pub fields_right : List ℕ → ℕ → ℕ → Node → Bool
@@ -91,10 +100,10 @@ unfoldable pub sort_below : List ℕ → (ℕ → Node) → ℕ → ℕ → ℕ
 sort_below sorts x i v = cond (ltb v i) (sort_of sorts (x v).op) 0
 
 -- field v of node i, used so, is an earlier node of the sort needed if it has to be one
-unfoldable pub operand_right : List ℕ → (ℕ → Node) → ℕ → ℕ → ℕ → Bool
-operand_right sorts x i what v =
-    (not (eqb what 7) || eqb (sort_below sorts x i v) proposition)
-    && (not (eqb what 8) || eqb (sort_below sorts x i v) formula)
+unfoldable pub operand_right : List ℕ → (ℕ → Node) → ℕ → Use → ℕ → Bool
+operand_right sorts x i PropositionNode v = eqb (sort_below sorts x i v) proposition
+operand_right sorts x i FormulaNode v = eqb (sort_below sorts x i v) formula
+operand_right sorts x i _ v = true
 
 -- Rule 7 at one node.
 unfoldable pub operands_right : List ℕ → (ℕ → Node) → ℕ → Bool

@@ -1,12 +1,14 @@
 -- The names that a node of a kind 1 sheet reaches, as a mask: bit u is name u. The laws say that they are the names of its tree.
-use Rattle.std.specs.Prelude.{ℕ, ◌/◌, ◌%◌, Bool, not, cond, ◌&&◌, ◌||◌, List, [], ◌∷◌, eqb, get_or}
+use Rattle.std.specs.Prelude.{ℕ, ◌/◌, ◌%◌, Bool, not, ◌&&◌, ◌||◌, List, [], ◌∷◌, get_or}
 use Rattle.std.specs.Int.Bits.{bit_or}
 use Rattle.semantics.specs.Proposition.{bit}
 use Rattle.semantics.specs.Placement.{Names}
 use Rattle.stored.specs.declared.Node.{Node}
+use Rattle.stored.specs.declared.nodes.Use.{Use}
+use Rattle.stored.specs.declared.nodes.Use.TheVariants.{Name, TwoNames, PropositionNode, FormulaNode}
 use Rattle.stored.specs.Bytes.{in_order}
 use Rattle.stored.specs.Layout.{most_nodes}
-use Rattle.stored.specs.Node.{q_use, a_use, b_use, is_operand}
+use Rattle.stored.specs.Node.{q_use, a_use, b_use}
 use Rattle.stored.specs.Tree.{earlier, made}
 
 unfoldable pub joint : ℕ → ℕ → ℕ
@@ -16,11 +18,12 @@ unfoldable pub name_mask : ℕ → ℕ
 name_mask u = get_or (1 ∷ 2 ∷ 4 ∷ []) u 0
 
 -- what a field of value v adds, used so, where r gives the masks of earlier nodes
-unfoldable pub field_reach : (ℕ → ℕ) → ℕ → ℕ → ℕ
-field_reach r what v =
-    cond (eqb what 2)
-    (name_mask v)
-    (cond (eqb what 5) (joint (name_mask (v / 16)) (name_mask (v % 16))) (cond (is_operand what) (r v) 0))
+unfoldable pub field_reach : (ℕ → ℕ) → Use → ℕ → ℕ
+field_reach r Name v = name_mask v
+field_reach r TwoNames v = joint (name_mask (v / 16)) (name_mask (v % 16))
+field_reach r PropositionNode v = r v
+field_reach r FormulaNode v = r v
+field_reach r _ v = 0
 
 unfoldable pub node_reach : (ℕ → ℕ) → Node → ℕ
 node_reach r n =

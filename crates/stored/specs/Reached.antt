@@ -3,11 +3,12 @@ use Rattle.std.specs.Prelude.{ℕ, Bool, true, ◌&&◌, ◌||◌, ◌≡◌, eq
 use Rattle.semantics.specs.Placement.{Names, no_names}
 use Rattle.semantics.specs.Reach.{with}
 use Rattle.stored.specs.declared.Node.{Node}
+use Rattle.stored.specs.declared.nodes.Use.{Use}
 use Rattle.stored.specs.Node.{is_operand, a_use, b_use}
 use Rattle.stored.specs.Tree.{pick}
 
 -- a field of value v, used so, is node i
-unfoldable pub is_node : ℕ → ℕ → ℕ → Bool
+unfoldable pub is_node : Use → ℕ → ℕ → Bool
 is_node what v i = is_operand what && eqb v i
 
 -- node i is an operand of n

@@ -2,18 +2,11 @@
 ghost use Rattle.std.specs.Prelude.{◌≡◌, ◌+◌, ◌≤◌, ◌<◌, length, get_or};
 ghost use Rattle.stored.specs.Bytes.{word, framed_from};
 
-// A byte as a number. Tables of constants are bytes, since a constant is laid down anew wherever it is used.
-pub fn wide(x: u8) -> usize
-    ensures { result ≡ x }
-{
-    x as usize
-}
-
 pub fn byte(s: &[u8], k: usize) -> usize
     requires { k < length s.now }
     ensures { (result ≡ get_or s.now k 0) × (result < 256) }
 {
-    s[k] as usize
+    usize::from(s[k])
 }
 
 // The big-endian field of two bytes at k.
@@ -21,7 +14,14 @@ pub fn word(s: &[u8], k: usize) -> usize
     requires { k + 1 < length s.now }
     ensures { (result ≡ word s.now k) × (result < 65536) }
 {
-    byte(s, k) * 256 + byte(s, k + 1)
+    usize::from(u16::from_be_bytes([s[k], s[k + 1]]))
+}
+
+// Entry i of a table, 0 past its end.
+pub(crate) fn listed(table: &[u8], i: usize) -> usize
+    ensures { result ≡ get_or table.now i 0 }
+{
+    table.get(i).map_or(0, |x| usize::from(*x))
 }
 
 // It has `least` bytes or more, and bytes 0–1 are its length less 2.

@@ -6,7 +6,7 @@ ghost use Rattle.stored.specs.Node.{node_at};
 ghost use Rattle.stored.specs.Reach.{reach_table};
 ghost use Rattle.stored.specs.Clause.{stored_at, parts_used, part_right, clause_right, clause_right_at, part_covered, clause_covered, clause_covered_at};
 
-use crate::bytes::wide;
+use crate::bytes::listed;
 use crate::{StoredClause, bytes, layout, masks, nodes};
 
 // The roles by their numbers.
@@ -17,7 +17,7 @@ pub const COMMITMENT: usize = 1;
 pub const ADVICE: usize = 2;
 
 // How many parts each type uses; there is no type 0.
-const PARTS: [u8; 7] = [0, 1, 2, 1, 2, 3, 3];
+static PARTS: [u8; 7] = [0, 1, 2, 1, 2, 3, 3];
 
 // Clause k of a clause part.
 pub fn stored_at(clauses: &[u8], k: usize) -> StoredClause
@@ -49,11 +49,7 @@ pub fn stored_at(clauses: &[u8], k: usize) -> StoredClause
 pub fn parts_used(clause_type: usize) -> usize
     ensures { result ≡ parts_used clause_type }
 {
-    if clause_type < 7 {
-        wide(PARTS[clause_type])
-    } else {
-        0
-    }
+    listed(&PARTS, clause_type)
 }
 
 // A used root is a formula node; an unused root and mask are zero.

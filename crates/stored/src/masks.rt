@@ -5,21 +5,18 @@ ghost use Rattle.stored.specs.Layout.{node_size, most_nodes};
 ghost use Rattle.stored.specs.Node.{node_at};
 ghost use Rattle.stored.specs.Reach.{name_mask, field_reach, node_reach, entry_of, reach_table};
 
-use crate::bytes::wide;
+use crate::bytes::listed;
+use crate::nodes::Use;
 use crate::{Node, layout, nodes};
 use rows::mask::has;
 
 // Name u as a mask.
-const NAMES: [u8; 3] = [1, 2, 4];
+static NAMES: [u8; layout::MOST_NAMES] = [1, 2, 4];
 
 pub fn name_mask(u: usize) -> usize
     ensures { result ≡ name_mask u }
 {
-    if u < layout::MOST_NAMES {
-        wide(NAMES[u])
-    } else {
-        0
-    }
+    listed(&NAMES, u)
 }
 
 // Whether a mask has name u.
@@ -34,23 +31,20 @@ pub fn has_name(mask: usize, u: usize) -> bool
 pub fn entry_of(table: &[usize], i: usize) -> usize
     ensures { result ≡ entry_of table.now i }
 {
-    if i < table.len() { table[i] } else { 0 }
+    table.get(i).copied().unwrap_or(0)
 }
 
 // The names that a field used so reaches, by the table of earlier nodes.
-fn field_reach(table: &[usize], what: usize, v: usize) -> usize
+#[tactic(auto, unfolding(crate::specs::Reach::field_reach, crate::specs::Reach::joint))]
+fn field_reach(table: &[usize], what: Use, v: usize) -> usize
     ensures { result ≡ field_reach (entry_of table.now) what v }
 {
-    if what == 2 {
-        return name_mask(v);
+    match what {
+        Use::Name => name_mask(v),
+        Use::TwoNames => name_mask(v / 16) | name_mask(v % 16),
+        Use::PropositionNode | Use::FormulaNode => entry_of(table, v),
+        _ => 0,
     }
-    if what == 5 {
-        return name_mask(v / 16) | name_mask(v % 16);
-    }
-    if (what == 7) | (what == 8) {
-        return entry_of(table, v);
-    }
-    0
 }
 
 fn node_reach(table: &[usize], x: Node) -> usize

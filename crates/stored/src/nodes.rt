@@ -4,50 +4,73 @@ ghost use Rattle.stored.specs.Bytes.{every_below};
 ghost use Rattle.stored.specs.Layout.{node_size};
 ghost use Rattle.stored.specs.Node.{node_at, requirement_sorts, sort_of, q_use, a_use, b_use, field_right, fields_right, node_right, sort_below, operand_right, operands_right, is_formula_node};
 
-use crate::bytes::wide;
-use crate::{Node, bytes, layout};
+use crate::bytes::listed;
+use crate::{Node, bytes, layout, ops};
 
 // The sort of each op in kind 1: 0 none, 1 proposition, 2 formula.
-const SORTS: [u8; 32] = [
+static SORTS: [u8; 32] = [
     0, 1, 1, 1, 1, 1, 1, 1, 0, 0, 0, 0, 0, 0, 0, 0, 2, 2, 2, 2, 2, 2, 2, 2, 2, 2, 2, 2, 2, 2, 0, 0,
 ];
 
-// What each op uses field q for, and then a and b: 0 nothing, 1 a signal, 2 a name, 3 a comparison, 4 a symbol, 5 two names,
-// 6 a number, 7 a proposition node, 8 a formula node.
-const Q_USES: [u8; 32] = [
-    0, 0, 0, 0, 0, 0, 0, 0, 0, 0, 0, 0, 0, 0, 0, 0, 0, 0, 0, 0, 0, 0, 0, 0, 3, 3, 3, 4, 0, 5, 0, 0,
-];
-
-const A_USES: [u8; 32] = [
-    0, 0, 0, 1, 2, 7, 7, 7, 0, 0, 0, 0, 0, 0, 0, 0, 7, 7, 7, 7, 8, 8, 8, 8, 0, 7, 7, 1, 2, 6, 8, 8,
-];
-
-const B_USES: [u8; 32] = [
-    0, 0, 0, 0, 0, 0, 7, 7, 0, 0, 0, 0, 0, 0, 0, 0, 0, 0, 0, 0, 8, 8, 8, 0, 6, 6, 6, 0, 0, 6, 0, 2,
-];
+// What an op uses a field of its nodes for: a value, a name or two, a number, or the number of an earlier node.
+#[derive(Clone, Copy, PartialEq, Eq)]
+pub enum Use {
+    Nothing,
+    Signal,
+    Name,
+    Comparison,
+    Symbol,
+    TwoNames,
+    Number,
+    PropositionNode,
+    FormulaNode,
+}
 
 pub fn sort_of(op: usize) -> usize
     ensures { result ≡ sort_of requirement_sorts op }
 {
-    if op < 32 { wide(SORTS[op]) } else { 0 }
+    listed(&SORTS, op)
 }
 
-pub fn q_use(op: usize) -> usize
+#[tactic(auto, unfolding(crate::specs::Node::q_use))]
+pub fn q_use(op: usize) -> Use
     ensures { result ≡ q_use op }
 {
-    if op < 32 { wide(Q_USES[op]) } else { 0 }
+    match op {
+        ops::SLEN | ops::SCOUNT | ops::SDUR => Use::Comparison,
+        ops::SYMBOL => Use::Symbol,
+        ops::GAP => Use::TwoNames,
+        _ => Use::Nothing,
+    }
 }
 
-pub fn a_use(op: usize) -> usize
+#[tactic(auto, unfolding(crate::specs::Node::a_use))]
+pub fn a_use(op: usize) -> Use
     ensures { result ≡ a_use op }
 {
-    if op < 32 { wide(A_USES[op]) } else { 0 }
+    match op {
+        ops::SIGNAL | ops::SYMBOL => Use::Signal,
+        ops::NAME | ops::MARK => Use::Name,
+        ops::NOT_P..=ops::OR_P | ops::POINT..=ops::UNIT | ops::SCOUNT | ops::SDUR => {
+            Use::PropositionNode
+        }
+        ops::CHOP..=ops::STAR | ops::NOT | ops::SOME => Use::FormulaNode,
+        ops::GAP => Use::Number,
+        _ => Use::Nothing,
+    }
 }
 
-pub fn b_use(op: usize) -> usize
+#[tactic(auto, unfolding(crate::specs::Node::b_use))]
+pub fn b_use(op: usize) -> Use
     ensures { result ≡ b_use op }
 {
-    if op < 32 { wide(B_USES[op]) } else { 0 }
+    match op {
+        ops::AND_P | ops::OR_P => Use::PropositionNode,
+        ops::CHOP..=ops::OR => Use::FormulaNode,
+        ops::SLEN..=ops::SDUR | ops::GAP => Use::Number,
+        ops::SOME => Use::Name,
+        _ => Use::Nothing,
+    }
 }
 
 // Node i of a node part.
@@ -64,17 +87,18 @@ pub fn node_at(nodes: &[u8], i: usize) -> Node
 }
 
 // A field's value v fits what it is used for, with s signals and m names.
-fn field_ok(s: usize, m: usize, what: usize, v: usize) -> bool
+#[tactic(auto, unfolding(crate::specs::Node::field_right))]
+fn field_ok(s: usize, m: usize, what: Use, v: usize) -> bool
     ensures { result ≡ field_right s m what v }
 {
     match what {
-        0 => v == 0,
-        1 => v < s,
-        2 => v < m,
-        3 => v < 5,
-        4 => v < 8,
-        5 => (v / 16 < m) & (v % 16 < m),
-        _ => true,
+        Use::Nothing => v == 0,
+        Use::Signal => v < s,
+        Use::Name => v < m,
+        Use::Comparison => v < 5,
+        Use::Symbol => v < 8,
+        Use::TwoNames => (v / 16 < m) & (v % 16 < m),
+        Use::Number | Use::PropositionNode | Use::FormulaNode => true,
     }
 }
 
@@ -88,7 +112,7 @@ fn fields_ok(s: usize, m: usize, x: Node) -> bool
     let q_ok = field_ok(s, m, q_use(op), x.q);
     let a_ok = field_ok(s, m, a_use(op), a);
     let b_ok = field_ok(s, m, b_use(op), b);
-    let gap = (op != 29) | (a <= b);
+    let gap = (op != ops::GAP) | (a <= b);
     known & (q_ok & (a_ok & (b_ok & gap)))
 }
 
@@ -112,14 +136,17 @@ fn sort_below(nodes: &[u8], i: usize, v: usize) -> usize
     }
 }
 
-fn operand_ok(nodes: &[u8], i: usize, what: usize, v: usize) -> bool
+// Field v of node i, used so, is an earlier node of the sort needed if it has to be one.
+#[tactic(auto, unfolding(crate::specs::Node::operand_right))]
+fn operand_ok(nodes: &[u8], i: usize, what: Use, v: usize) -> bool
     requires { node_size * i ≤ length nodes.now }
     ensures { result ≡ operand_right requirement_sorts (node_at nodes.now) i what v }
 {
-    let sort = sort_below(nodes, i, v);
-    let proposition = (what != 7) | (sort == 1);
-    let formula = (what != 8) | (sort == 2);
-    proposition & formula
+    match what {
+        Use::PropositionNode => sort_below(nodes, i, v) == 1,
+        Use::FormulaNode => sort_below(nodes, i, v) == 2,
+        _ => true,
+    }
 }
 
 fn operands_ok_at(nodes: &[u8], i: usize) -> bool

@@ -15,11 +15,12 @@ use Rattle.rows.proofs.Bits.{bit_nothing}
 use Rattle.rows.proofs.Rows.{word_small, word_bit, is_word_lem, is_word_in, word_and, word_or, word_not}
 use Rattle.rows.proofs.Formulas.{point_holds, stretch_holds, whole_holds, unit_holds, chop_holds, conjunction_holds, disjunction_holds, star_holds, slen_holds, scount_holds, sdur_holds, drawn_holds, at_holds, gap_holds}
 use Rattle.stored.specs.declared.Node.{Node}
+use Rattle.stored.specs.declared.nodes.Use.TheVariants.{Signal, PropositionNode, FormulaNode}
 use Rattle.stored.specs.Node.{requirement_sorts, sort_of, a_use, b_use, q_use}
 use Rattle.stored.specs.Tree.{proposition_op, formula_op, proposition_of, formula_of, comparison_of, symbol_of}
 use Rattle.stored.proofs.Tree.{proposition_cases, formula_cases, is_proposition, is_formula}
 use Rattle.tables.specs.Table.{row_at}
-use Rattle.tables.specs.Step.{column_of, first_column, second_column, row_of}
+use Rattle.tables.specs.Step.{column_of, first_column, second_column, of_first, of_two, row_of}
 use Rattle.tables.proofs.Columns.{Tells}
 
 none_is : (n : ℕ) → 0 ≡ word n (λ t. false)
@@ -38,7 +39,7 @@ module _ (x : Node) (n : ℕ) (columns : List ℕ) (σ : Trace) (μ : Marks) (wo
 
   unfoldable pub Columns : ℕ → Type 0
   Columns k =
-      sort_of requirement_sorts k ≡ 1 → (a_use k ≡ 1 → x.a < 16) → (a_use k ≡ 7 → Column words x.a) → (b_use k ≡ 7 → Column words x.b)
+      sort_of requirement_sorts k ≡ 1 → (a_use k ≡ Signal → x.a < 16) → (a_use k ≡ PropositionNode → Column words x.a) → (b_use k ≡ PropositionNode → Column words x.b)
       → column_of (proposition_op k) x n columns words ≡ word n (λ t. holds_at (proposition_of (proposition_op k) x p) σ μ t)
 
   pub column_is : (k : ℕ) → Columns k
@@ -66,8 +67,8 @@ module _ (x : Node) (n : ℕ) (columns : List ℕ) (σ : Trace) (μ : Marks) (wo
 
     unfoldable pub Lines : ℕ → Type 0
     Lines k =
-        sort_of requirement_sorts k ≡ 2 → (a_use k ≡ 1 → x.a < 16) → first ≡ first_column k x columns old → second ≡ second_column k x columns
-        → (a_use k ≡ 7 → Column old x.a) → (a_use k ≡ 8 → Rows x.a) → (b_use k ≡ 8 → Rows x.b)
+        sort_of requirement_sorts k ≡ 2 → (a_use k ≡ Signal → x.a < 16) → first ≡ first_column k x columns old → second ≡ second_column k x columns
+        → (a_use k ≡ PropositionNode → Column old x.a) → (a_use k ≡ FormulaNode → Rows x.a) → (b_use k ≡ FormulaNode → Rows x.b)
         → ((c : ℕ) → b < c → c < n → row_at words own c ≡ row n (holds (formula_of (formula_op k) x p f) σ μ) c)
         → row_of (formula_op k) x n first second words own b ≡ row n (holds (formula_of (formula_op k) x p f) σ μ) b
 
@@ -77,7 +78,7 @@ module _ (x : Node) (n : ℕ) (columns : List ℕ) (σ : Trace) (μ : Marks) (wo
     held e g t l = column_bit first (λ t. holds_at (p x.a) σ μ t) (e ∙ g) t l
 
     pub line_is : (k : ℕ) → Lines k
-    unfolding Lines Column Rows sort_of a_use b_use q_use first_column second_column row_of formula_op formula_of
+    unfolding Lines Column Rows sort_of a_use b_use q_use first_column second_column of_first of_two row_of formula_op formula_of
     line_is k =
         formula_cases Lines
         (λ s h u v c r₁ r₂ later. point_holds n few σ μ b inside first (p x.a) (held u (c refl)))

@@ -1,46 +1,46 @@
 -- What rules 6 and 7 say of one node.
 use Prim.Native.Nat.{ℕ, ◌/◌, ◌%◌, ◌<◌}
-use mathlib.Core.Bool.{true, not, ◌&&◌, ◌||◌}
+use mathlib.Core.Bool.{true, not, ◌&&◌}
 use mathlib.Core.List.{List}
 use mathlib.Core.Path.{◌≡◌, sym, ap, subst, ◌∙◌}
 use native.Mathlib.Omega.{arith}
-use borrow.Author.Tests.{ltb-true, eqb-false, eq-eqb, not-true}
+use borrow.Author.Tests.{ltb-true, eqb-false, not-true}
 use lib.Dec.{ltb, eqb}
 use Rattle.stored.specs.declared.Node.{Node}
+use Rattle.stored.specs.declared.nodes.Use.{Use}
+use Rattle.stored.specs.declared.nodes.Use.TheVariants.{Signal, Name, Comparison, Symbol, TwoNames}
 use Rattle.stored.specs.Node.{requirement_sorts, sort_of, node_at, q_use, a_use, field_right, fields_right, node_right, operands_right}
 use Rattle.semantics.proofs.Tests.{and_left, and_right}
-use Rattle.stored.proofs.Rules.{asked, every_at}
+use Rattle.stored.proofs.Rules.{every_at}
 use Rattle.stored.proofs.Tree.{operands}
 use Rattle.stored.proofs.Reach.{NodesKept}
 use Rattle.tables.specs.Ready.{Given}
 use Rattle.tables.specs.Step.{Usable, is_pair}
 use Rattle.tables.proofs.Uses.{Ops, proposition_ops, formula_ops_lem, joins_formula, pair_of, pair_formula, pair_right, star_formula}
 
-record FieldKept (s m what v : ℕ) : Type 0 where
-  pub signal : what ≡ 1 → v < s
-  pub name : what ≡ 2 → v < m
-  pub comparison : what ≡ 3 → v < 5
-  pub symbol : what ≡ 4 → v < 8
-  pub first : what ≡ 5 → v / 16 < m
-  pub second : what ≡ 5 → v % 16 < m
+-- what a field's use says of its value
+record FieldKept (s m : ℕ) (what : Use) (v : ℕ) : Type 0 where
+  pub signal : what ≡ Signal → v < s
+  pub name : what ≡ Name → v < m
+  pub comparison : what ≡ Comparison → v < 5
+  pub symbol : what ≡ Symbol → v < 8
+  pub first : what ≡ TwoNames → v / 16 < m
+  pub second : what ≡ TwoNames → v % 16 < m
 
-field_kept : (s m what v : ℕ) → field_right s m what v ≡ true → FieldKept s m what v
+field_kept : (s m : ℕ) (what : Use) (v : ℕ) → field_right s m what v ≡ true → FieldKept s m what v
 unfolding field_right
 field_kept s m what v h =
-    let r₁ = and_right (not (eqb what 0) || eqb v 0) _ h in
-    let r₂ = and_right (not (eqb what 1) || ltb v s) _ r₁ in
-    let r₃ = and_right (not (eqb what 2) || ltb v m) _ r₂ in
-    let r₄ = and_right (not (eqb what 3) || ltb v 5) _ r₃ in
-    let r₅ = and_right (not (eqb what 4) || ltb v 8) _ r₄ in
-    let two : what ≡ 5 → (ltb (v / 16) m && ltb (v % 16) m) ≡ true = λ e. asked (eqb what 5) _ r₅ (eq-eqb what 5 e) in
     record {
-      signal = λ e. ltb-true v s (asked (eqb what 1) (ltb v s) (and_left _ _ r₁) (eq-eqb what 1 e));
-      name = λ e. ltb-true v m (asked (eqb what 2) (ltb v m) (and_left _ _ r₂) (eq-eqb what 2 e));
-      comparison = λ e. ltb-true v 5 (asked (eqb what 3) (ltb v 5) (and_left _ _ r₃) (eq-eqb what 3 e));
-      symbol = λ e. ltb-true v 8 (asked (eqb what 4) (ltb v 8) (and_left _ _ r₄) (eq-eqb what 4 e));
-      first = λ e. ltb-true (v / 16) m (and_left (ltb (v / 16) m) (ltb (v % 16) m) (two e));
-      second = λ e. ltb-true (v % 16) m (and_right (ltb (v / 16) m) (ltb (v % 16) m) (two e));
+      signal = λ e. ltb-true v s (told e);
+      name = λ e. ltb-true v m (told e);
+      comparison = λ e. ltb-true v 5 (told e);
+      symbol = λ e. ltb-true v 8 (told e);
+      first = λ e. ltb-true (v / 16) m (and_left (ltb (v / 16) m) (ltb (v % 16) m) (told e));
+      second = λ e. ltb-true (v % 16) m (and_right (ltb (v / 16) m) (ltb (v % 16) m) (told e));
     }
+  where
+    told : {w : Use} → what ≡ w → field_right s m w v ≡ true
+    told e = subst (λ (w : Use). field_right s m w v ≡ true) e h
 
 record NodeKept (s m : ℕ) (x : Node) : Type 0 where
   pub sorted : sort_of requirement_sorts x.op ≡ 0 → ⊥

@@ -9,25 +9,22 @@ use borrow.Author.Tests.{ltb-true, ltb-false, leb-true, eqb-true, eqb-false, eq-
 use lib.Dec.{leb, ltb, eqb}
 use lib.ListN.{get_or-eq_default}
 use Rattle.stored.specs.declared.Node.{Node}
+use Rattle.stored.specs.declared.nodes.Use.TheVariants.{Comparison, FormulaNode}
 use Rattle.stored.specs.Bytes.{every_below}
 use Rattle.stored.specs.Node.{requirement_sorts, sort_of, a_use, b_use, q_use}
 use Rattle.semantics.proofs.Tests.{test, both, and_left, and_right}
-use Rattle.tables.specs.Step.{first_column, second_column, is_pair}
-use Rattle.stored.proofs.Rules.{asked, every_at, every_number}
+use Rattle.tables.specs.Step.{first_column, second_column, of_first, of_two, is_pair}
+use Rattle.stored.proofs.Rules.{asked, every_number, each_between}
 
 -- chop, and, or, star
-pub joins_formula : (k : ℕ) → 20 ≤ k → k < 24 → a_use k ≡ 8
-unfolding a_use every_below
-joins_formula k l h =
-    eqb-true (a_use k) 8
-    (asked (leb 20 k) (eqb (a_use k) 8) (every_at 24 (λ k. not (leb 20 k) || eqb (a_use k) 8) refl k h) (le-leb 20 k l))
+pub joins_formula : (k : ℕ) → 20 ≤ k → k < 24 → a_use k ≡ FormulaNode
+unfolding a_use
+joins_formula k l h = each_between (λ k. a_use k ≡ FormulaNode) 20 4 (refl, (refl, (refl, (refl, tt)))) k l h
 
 -- slen, scount, sdur
-pub counts_compare : (k : ℕ) → 24 ≤ k → k < 27 → q_use k ≡ 3
-unfolding q_use every_below
-counts_compare k l h =
-    eqb-true (q_use k) 3
-    (asked (leb 24 k) (eqb (q_use k) 3) (every_at 27 (λ k. not (leb 24 k) || eqb (q_use k) 3) refl k h) (le-leb 24 k l))
+pub counts_compare : (k : ℕ) → 24 ≤ k → k < 27 → q_use k ≡ Comparison
+unfolding q_use
+counts_compare k l h = each_between (λ k. q_use k ≡ Comparison) 24 3 (refl, (refl, (refl, tt))) k l h
 
 -- the ops of a sort
 pub record Ops (low high k : ℕ) : Type 0 where
@@ -100,16 +97,16 @@ pub pair_formula : (k : ℕ) → is_pair k ≡ true → sort_of requirement_sort
 unfolding sort_of
 pair_formula = pair_told (λ k. sort_of requirement_sorts k ≡ 2) refl refl refl
 
-pub pair_right : (k : ℕ) → is_pair k ≡ true → b_use k ≡ 8
+pub pair_right : (k : ℕ) → is_pair k ≡ true → b_use k ≡ FormulaNode
 unfolding b_use
-pair_right = pair_told (λ k. b_use k ≡ 8) refl refl refl
+pair_right = pair_told (λ k. b_use k ≡ FormulaNode) refl refl refl
 
 pub pair_first : (k : ℕ) (x : Node) (columns words : List ℕ) → is_pair k ≡ true → 0 ≡ first_column k x columns words
-unfolding first_column a_use q_use
+unfolding first_column of_first of_two a_use q_use
 pair_first k x columns words = pair_told (λ k. 0 ≡ first_column k x columns words) refl refl refl k
 
 pub pair_second : (k : ℕ) (x : Node) (columns : List ℕ) → is_pair k ≡ true → 0 ≡ second_column k x columns
-unfolding second_column q_use
+unfolding second_column of_two q_use
 pair_second k x columns = pair_told (λ k. 0 ≡ second_column k x columns) refl refl refl k
 
 -- star: over the rows of one formula and its own, and over no columns
@@ -118,9 +115,9 @@ unfolding sort_of
 star_formula k e = rw e
 
 pub star_first : (k : ℕ) (x : Node) (columns words : List ℕ) → k ≡ 23 → 0 ≡ first_column k x columns words
-unfolding first_column a_use q_use
+unfolding first_column of_first of_two a_use q_use
 star_first k x columns words e = rw e
 
 pub star_second : (k : ℕ) (x : Node) (columns : List ℕ) → k ≡ 23 → 0 ≡ second_column k x columns
-unfolding second_column q_use
+unfolding second_column of_two q_use
 star_second k x columns e = rw e

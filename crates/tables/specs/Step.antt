@@ -1,11 +1,13 @@
 -- What a fill makes of one node from its operands' words. The laws say that it is the node's table.
-use Rattle.std.specs.Prelude.{ℕ, ◌+◌, ◌-◌, ◌/◌, ◌%◌, ◌^◌, ◌<◌, Bool, cond, ◌&&◌, List, ◌≡◌, leb, ltb, eqb}
+use Rattle.std.specs.Prelude.{ℕ, ◌+◌, ◌-◌, ◌/◌, ◌%◌, ◌^◌, ◌<◌, Bool, ◌&&◌, List, ◌≡◌, leb, ltb, eqb}
 use Rattle.std.specs.Int.Bits.{bit_and, bit_or}
 use Rattle.semantics.specs.Cycles.{some_in, every_from, every_in, count_from, count_in}
 use Rattle.semantics.specs.Proposition.{bit}
 use Rattle.semantics.specs.Formula.{compared, drawn_on}
 use Rattle.rows.specs.Row.{word, row, joined, starred}
 use Rattle.stored.specs.declared.Node.{Node}
+use Rattle.stored.specs.declared.nodes.Use.{Use}
+use Rattle.stored.specs.declared.nodes.Use.TheVariants.{Signal, Name, Comparison, Symbol, TwoNames, PropositionNode, FormulaNode}
 use Rattle.traces.specs.Columns.{first_name, column_at}
 use Rattle.stored.specs.Node.{a_use, b_use, q_use}
 use Rattle.stored.specs.Tree.{PropositionOp, never_op, always_op, signal_op, name_op, negated_op, both_op, either_op, no_proposition, FormulaOp, point_op, stretch_op, whole_op, unit_op, chop_op, conjunction_op, disjunction_op, star_op, slen_op, scount_op, sdur_op, drawn_op, at_op, gap_op, negation_op, for_some_op, no_formula, comparison_of, symbol_of}
@@ -13,16 +15,16 @@ use Rattle.tables.specs.Table.{row_at}
 
 -- the fields of a node that rules 6 and 7 take, where `before` nodes stand before it
 pub record Usable (x : Node) (before : ℕ) : Type 0 where
-  pub a_signal_holds : a_use x.op ≡ 1 → x.a < 16
-  pub a_name_holds : a_use x.op ≡ 2 → x.a < 3
-  pub a_proposition : a_use x.op ≡ 7 → x.a < before
-  pub a_formula : a_use x.op ≡ 8 → x.a < before
-  pub b_proposition : b_use x.op ≡ 7 → x.b < before
-  pub b_formula : b_use x.op ≡ 8 → x.b < before
-  pub comparison : q_use x.op ≡ 3 → x.q < 5
-  pub symbol : q_use x.op ≡ 4 → x.q < 8
-  pub first_name_holds : q_use x.op ≡ 5 → x.q / 16 < 3
-  pub second_name : q_use x.op ≡ 5 → x.q % 16 < 3
+  pub a_signal_holds : a_use x.op ≡ Signal → x.a < 16
+  pub a_name_holds : a_use x.op ≡ Name → x.a < 3
+  pub a_proposition : a_use x.op ≡ PropositionNode → x.a < before
+  pub a_formula : a_use x.op ≡ FormulaNode → x.a < before
+  pub b_proposition : b_use x.op ≡ PropositionNode → x.b < before
+  pub b_formula : b_use x.op ≡ FormulaNode → x.b < before
+  pub comparison : q_use x.op ≡ Comparison → x.q < 5
+  pub symbol : q_use x.op ≡ Symbol → x.q < 8
+  pub first_name_holds : q_use x.op ≡ TwoNames → x.q / 16 < 3
+  pub second_name : q_use x.op ≡ TwoNames → x.q % 16 < 3
 
 -- the column of a proposition node
 unfoldable pub column_of : PropositionOp → Node → ℕ → List ℕ → List ℕ → ℕ
@@ -36,16 +38,21 @@ column_of either_op x n columns words = bit_or (row_at words x.a 0) (row_at word
 column_of no_proposition x n columns words = 0
 
 -- the columns that a formula node is over: its proposition, signal or name, and the second name of a gap
+unfoldable pub of_two : Use → ℕ → List ℕ → ℕ
+of_two TwoNames u columns = column_at columns (first_name + u)
+of_two _ u columns = 0
+
+unfoldable pub of_first : Use → Use → Node → List ℕ → List ℕ → ℕ
+of_first PropositionNode q x columns words = row_at words x.a 0
+of_first Signal q x columns words = column_at columns x.a
+of_first Name q x columns words = column_at columns (first_name + x.a)
+of_first _ q x columns words = of_two q (x.q / 16) columns
+
 unfoldable pub first_column : ℕ → Node → List ℕ → List ℕ → ℕ
-first_column op x columns words =
-    cond (eqb (a_use op) 7)
-    (row_at words x.a 0)
-    (cond (eqb (a_use op) 1)
-    (column_at columns x.a)
-    (cond (eqb (a_use op) 2) (column_at columns (first_name + x.a)) (cond (eqb (q_use op) 5) (column_at columns (first_name + x.q / 16)) 0)))
+first_column op x columns words = of_first (a_use op) (q_use op) x columns words
 
 unfoldable pub second_column : ℕ → Node → List ℕ → ℕ
-second_column op x columns = cond (eqb (q_use op) 5) (column_at columns (first_name + x.q % 16)) 0
+second_column op x columns = of_two (q_use op) (x.q % 16) columns
 
 -- chop, and, or: over the rows of two formulas
 unfoldable pub is_pair : ℕ → Bool

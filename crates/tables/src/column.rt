@@ -2,12 +2,12 @@
 ghost use Rattle.std.specs.Prelude.{◌≡◌, ◌+◌, ◌*◌, ◌≤◌, ◌<◌, length};
 ghost use Rattle.traces.specs.Columns.{first_name, column_at};
 ghost use Rattle.stored.specs.Tree.{proposition_op};
-ghost use Rattle.tables.specs.Step.{Usable, column_of, first_column, second_column};
+ghost use Rattle.tables.specs.Step.{Usable, column_of, of_two, first_column, second_column};
 
 use crate::words::row_at;
 use rows::mask::below;
 use stored::Node;
-use stored::nodes::{a_use, q_use};
+use stored::nodes::{Use, a_use, q_use};
 use traces::trace::FIRST_NAME;
 
 // Column k.
@@ -24,6 +24,18 @@ fn name_column(columns: &[u64], u: usize) -> u64
     ensures { result ≡ column_at columns.now (first_name + u) }
 {
     column_at(columns, FIRST_NAME + u)
+}
+
+// The column of name u, if the field that has it has two names.
+#[tactic(auto, unfolding(crate::specs::Step::of_two))]
+fn of_two(what: Use, u: usize, columns: &[u64]) -> u64
+    requires { (what ≡ Use.TwoNames → u < 3) × (length columns.now ≡ 19) }
+    ensures { result ≡ of_two what u columns.now }
+{
+    match what {
+        Use::TwoNames => name_column(columns, u),
+        _ => 0,
+    }
 }
 
 // The column of a proposition node, from its operands' columns in the words.
@@ -47,42 +59,26 @@ pub fn proposition(x: Node, before: usize, n: usize, columns: &[u64], words: &[u
 }
 
 // The column of a formula node's proposition, signal or first name.
+#[tactic(auto, unfolding(crate::specs::Step::first_column, crate::specs::Step::of_first))]
 pub fn first(x: Node, before: usize, columns: &[u64], words: &[u64]) -> u64
     requires usable { Usable x before }
     requires long_enough { (length columns.now ≡ 19) × (64 * before ≤ length words.now) }
     ensures { result ≡ first_column x.op x columns.now words.now }
 {
-    let op = x.op;
-    let q = x.q;
-    let a = x.a;
-    let what = a_use(op);
-    if what == 7 {
-        return row_at(words, a, 0);
+    match a_use(x.op) {
+        Use::PropositionNode => row_at(words, x.a, 0),
+        Use::Signal => column_at(columns, x.a),
+        Use::Name => name_column(columns, x.a),
+        _ => of_two(q_use(x.op), x.q / 16, columns),
     }
-    if what == 1 {
-        return column_at(columns, a);
-    }
-    if what == 2 {
-        return name_column(columns, a);
-    }
-    let two = q_use(op);
-    if two == 5 {
-        return name_column(columns, q / 16);
-    }
-    0
 }
 
 // The column of a gap's second name.
+#[tactic(auto, unfolding(crate::specs::Step::second_column))]
 pub fn second(x: Node, before: usize, columns: &[u64]) -> u64
     requires usable { Usable x before }
     requires long_enough { length columns.now ≡ 19 }
     ensures { result ≡ second_column x.op x columns.now }
 {
-    let op = x.op;
-    let q = x.q;
-    let what = q_use(op);
-    if what == 5 {
-        return name_column(columns, q % 16);
-    }
-    0
+    of_two(q_use(x.op), x.q % 16, columns)
 }

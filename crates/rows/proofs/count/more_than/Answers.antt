@@ -4,7 +4,7 @@ use Prim.Native.Nat.{ℕ, ◌-◌, ◌+◌, ◌^◌}
 use native.Mathlib.Omega.{arith}
 use lib.Bits.{bit_and}
 use lib.Count.{ones, trailing_le}
-use Rattle.rows.proofs.Counts.{from, Dropped, dropped_none, dropped_some, dropped_more, few_above, dropped_above}
+use Rattle.rows.proofs.Counts.{Dropped, dropped_none, dropped_some, dropped_more, few_above, dropped_above}
 use Rattle.rows.proofs.count.more_than.Goals as goal
 
 pub returns-then-left-number : goal.returns-then-left-number

@@ -1,6 +1,6 @@
 -- `traces::writer::put_cycles` meets its contract.
 use mathlib.Core.Path.{◌≡◌}
-use lib.ListN.{length, take}
+use lib.ListN.{take}
 use lib.Seq.{sets}
 use Rattle.stored.specs.Layout.{cycles_start}
 use Rattle.traces.specs.Written.{cycle_bytes}
