@@ -1,19 +1,21 @@
 -- Laws of fills: the words of one node, of the nodes passed so far, and of the nodes that a moved name does not reach.
-use Prim.Native.Nat.{ℕ, ◌+◌, ◌-◌, ◌*◌, ◌^◌, ◌≤◌, ◌<◌}
+use Prim.Native.Nat.{ℕ, zero, suc, ◌+◌, ◌-◌, ◌*◌, ◌^◌, ◌≤◌, ◌<◌}
 use mathlib.Core.Bool.{true}
-use mathlib.Core.List.{List}
+use mathlib.Core.List.{List, ◌++◌}
 use mathlib.Core.Logic.{inl, inr}
-use mathlib.Core.Path.{◌≡◌, refl, sym, ◌∙◌, ap, subst}
+use mathlib.Core.Path.{◌≡◌, refl, sym, ◌∙◌, ap, ap₂, subst}
 use native.Mathlib.Omega.{arith}
 use borrow.Author.Tests.{leb-true, eqb-true, eqb-false}
-use lib.Bits.{bit_and}
+use lib.Bits.{bit_and, bit_or}
 use lib.Dec.{leb, ltb, eqb}
-use lib.ListN.{length, set}
-use lib.Seq.{get_or-set_same, get_or-set_other}
+use lib.ListN.{length, get_or, set, take, drop}
+use lib.Seq.{get_or-take, get_or-set_same, get_or-set_other}
 use Rattle.semantics.specs.Proposition.{Proposition, Trace, Marks, bit, holds_at}
-use Rattle.semantics.specs.Formula.{Formula, holds}
+use Rattle.semantics.specs.Formula.{Formula, star, holds}
 use Rattle.semantics.proofs.Tests.{test, and_right}
-use Rattle.rows.specs.Row.{word, row, joined}
+use Rattle.rows.specs.Row.{word, row, joined, starred}
+use Rattle.rows.proofs.Joins.{starred_is}
+use Rattle.rows.proofs.Formulas.{star_holds}
 use Rattle.rows.proofs.Masks.{cut_bit}
 use Rattle.stored.specs.declared.Node.{Node}
 use Rattle.traces.specs.Columns.{IsColumns, trace_of, marks_of}
@@ -24,47 +26,45 @@ use Rattle.stored.specs.Tree.{earlier, proposition_op, formula_op, formula_of, p
 use Rattle.stored.proofs.Tree.{operands, proposition_law, formula_law}
 use Rattle.tables.specs.Table.{row_at, Table, Tables}
 use Rattle.tables.specs.Ready.{Given, Ready, Before, Filled, Kept, apart}
-use Rattle.tables.specs.Step.{column_of, first_column, second_column, row_of, Empty, Cleared}
-use Rattle.tables.proofs.Rows.{joined_chosen, joined_ext}
+use Rattle.tables.specs.Step.{column_of, first_column, second_column, row_of}
+use Rattle.tables.specs.Step as step
+use Rattle.tables.proofs.Rows.{joined_chosen}
 use Rattle.tables.proofs.Columns.{tells}
+use Rattle.tables.proofs.Uses.{joins_formula}
 use Rattle.tables.proofs.Nodes.{operands_at, usable}
+use Rattle.tables.proofs.Parts.{part_rows, part_beside}
 use Rattle.tables.proofs.Meaning.{Column, Columns, column_is, Rows, Lines, line_is}
 
--- a stored row, and the rows beside it
-pub row_set : (words : List ℕ) (i b v : ℕ) → 64 * i + b < length words → row_at (set words (64 * i + b) v) i b ≡ v
-unfolding row_at
-row_set words i b v h = get_or-set_same words (64 * i + b) v 0 h
+-- the rows from b on, and one more before them: as it stands, and as it is stored
+pub one_there : {n : ℕ} (own : List ℕ) (b : ℕ) (want : ℕ → ℕ) → 0 < b → get_or own (b - 1) 0 ≡ want (b - 1)
+    → ((c : ℕ) → b ≤ c → c < n → get_or own c 0 ≡ want c) → (c : ℕ) → b - 1 ≤ c → c < n → get_or own c 0 ≡ want c
+one_there own b want p e later c l h =
+    elim (test (eqb c (b - 1))) [
+      | inl s ↦ subst (λ (d : ℕ). get_or own d 0 ≡ want d) (sym (eqb-true c (b - 1) s)) e
+      | inr s ↦ (let other = eqb-false c (b - 1) s in later c (omega arith) h)
+    ]
 
-pub row_other : (words : List ℕ) (i b v k c : ℕ) → b < 64 → c < 64 → (k ≡ i → c ≡ b → ⊥) → row_at (set words (64 * i + b) v) k c ≡ row_at words k c
-unfolding row_at
-row_other words i b v k c l m ne =
-    get_or-set_other words (64 * i + b) (64 * k + c) v 0
-    (λ e. let same : k ≡ i = omega arith in ne same (omega arith))
+pub one_stored : {n : ℕ} (own : List ℕ) (b v : ℕ) (want : ℕ → ℕ) → 0 < b → b ≤ length own → v ≡ want (b - 1)
+    → ((c : ℕ) → b ≤ c → c < n → get_or own c 0 ≡ want c) → (c : ℕ) → b - 1 ≤ c → c < n → get_or (set own (b - 1) v) c 0 ≡ want c
+one_stored own b v want p long e later =
+    one_there (set own (b - 1) v) b want p (get_or-set_same own (b - 1) v 0 (omega arith) ∙ e)
+    (λ c l h. get_or-set_other own (b - 1) c v 0 (omega arith) ∙ later c l h)
 
--- the rows before a stored one stay empty
-pub empty_set : (i b v : ℕ) (words : List ℕ) → 0 < b → b ≤ 64 → Empty i b words → Empty i (b - 1) (set words (64 * i + (b - 1)) v)
-empty_set i b v words p l t =
-    record { none = λ c m. row_other words i (b - 1) v i c (omega arith) (omega arith) (λ _ y. absurd (omega arith)) ∙ t.none c (omega arith) }
+-- what a star joins from its own rows after c stays, where a row up to c is stored
+pub joined_after : (own : List ℕ) (b v links c : ℕ) → b ≤ c
+    → let later = bit_and links (2 ^ 64 - 1 - word 64 (λ e. ltb e (c + 1))) in
+    joined later (λ k. get_or own k 0) ≡ joined later (λ k. get_or (set own b v) k 0)
+joined_after own b v links c l =
+    joined_chosen (bit_and links (2 ^ 64 - 1 - word 64 (λ e. ltb e (c + 1)))) (λ k. get_or own k 0) (λ k. get_or (set own b v) k 0)
+    (λ k m s.
+    let past = leb-true (c + 1) k (and_right (bit links k) (leb (c + 1) k) (sym (cut_bit 64 links (c + 1) k m) ∙ s)) in
+    sym (get_or-set_other own b k v 0 (omega arith)))
 
--- what is joined from the rows of another node stays
-pub joined_other : (words : List ℕ) (i b v k ends : ℕ) → b < 64 → (k ≡ i → ⊥) → joined ends (row_at words k) ≡ joined ends (row_at (set words (64 * i + b) v) k)
-joined_other words i b v k ends l ne =
-    joined_ext ends (row_at words k) (row_at (set words (64 * i + b) v) k) (λ c m. sym (row_other words i b v k c l m (λ y _. ne y)))
-
--- what is joined from a node's own rows after b stays, where row b is stored
-pub joined_own : (words : List ℕ) (i b v links later : ℕ) → b < 64 → later ≡ bit_and links (2 ^ 64 - 1 - word 64 (λ e. ltb e (b + 1)))
-    → joined later (row_at words i) ≡ joined later (row_at (set words (64 * i + b) v) i)
-joined_own words i b v links later l e =
-    joined_chosen later (row_at words i) (row_at (set words (64 * i + b) v) i)
-    (λ c m s.
-    let there = sym (cut_bit 64 links (b + 1) c m) ∙ ap (λ (x : ℕ). bit x c) (sym e) ∙ s in
-    let past = leb-true (b + 1) c (and_right (bit links c) (leb (b + 1) c) there) in
-    sym (row_other words i b v i c l m (λ _ y. absurd (omega arith))))
-
--- node i has its rows from b on, and the words of the other nodes are as they were
-pub record Partly (x : ℕ → Node) (σ : Trace) (μ : Marks) (n i b : ℕ) (old new : List ℕ) : Type 0 where
-  pub later : (c : ℕ) → b ≤ c → c < n → row_at new i c ≡ row n (holds (formula_at x i) σ μ) c
-  pub beside : (k c : ℕ) → c < 64 → (k ≡ i → ⊥) → row_at new k c ≡ row_at old k c
+pub starred_after : (own : List ℕ) (b v links c : ℕ) → b ≤ c → starred links (λ k. get_or own k 0) c ≡ starred links (λ k. get_or (set own b v) k 0) c
+starred_after own b v links c l =
+    sym (starred_is links (λ k. get_or own k 0) c)
+    ∙ ap (bit_or (word 64 (eqb c))) (joined_after own b v links c l)
+    ∙ starred_is links (λ k. get_or (set own b v) k 0) c
 
 -- the nodes before i are right, and so are those that reach no moved name
 pub record Sofar (x : ℕ → Node) (count : ℕ) (σ : Trace) (μ : Marks) (n : ℕ) (reach : List ℕ) (moved i : ℕ) (words : List ℕ) : Type 0 where
@@ -92,53 +92,29 @@ module _ {x : ℕ → Node} {σ : Trace} {μ : Marks} {n : ℕ} (few : n ≤ 64)
         | inr s ↦ (let ne = eqb-false k i s in table_kept old new k (λ c l. f.others k c l ne) (t ne))
       ]
 
-  pub partly_none : (i : ℕ) (words : List ℕ) → Partly x σ μ n i n words words
-  partly_none i words = record { later = λ c l h. absurd (omega arith); beside = λ k c l ne. refl }
-
-  -- row b - 1 is right already
-  pub partly_there : (i b : ℕ) (old new : List ℕ) → 0 < b → row_at new i (b - 1) ≡ row n (holds (formula_at x i) σ μ) (b - 1)
-      → Partly x σ μ n i b old new → Partly x σ μ n i (b - 1) old new
-  partly_there i b old new p e t =
+  -- the words of the nodes before i, as a part of all words
+  pub before_part : (i : ℕ) (words before : List ℕ) → before ≡ take (64 * i) words → Before x σ μ n words i → Before x σ μ n before i
+  unfolding row_at
+  before_part i words before e t =
       record {
-        later = λ c l u.
-            elim (test (eqb c (b - 1))) [
-              | inl s ↦ subst (λ (d : ℕ). row_at new i d ≡ row n (holds (formula_at x i) σ μ) d) (sym (eqb-true c (b - 1) s)) e
-              | inr s ↦ (let other = eqb-false c (b - 1) s in t.later c (omega arith) u)
-            ];
-        beside = t.beside;
+        earlier = λ k l.
+            table_kept words before k
+            (λ c m. ap (λ (w : List ℕ). get_or w (64 * k + c) 0) e ∙ get_or-take (64 * i) words (64 * k + c) 0 (omega arith)) (t.earlier k l);
       }
 
-  -- it is written
-  pub partly_more : (i b v : ℕ) (old new : List ℕ) → 0 < b → b ≤ n → 64 * i + (b - 1) < length new
-      → v ≡ row n (holds (formula_at x i) σ μ) (b - 1) → Partly x σ μ n i b old new → Partly x σ μ n i (b - 1) old (set new (64 * i + (b - 1)) v)
-  partly_more i b v old new p m h e t =
-      partly_there i b old (set new (64 * i + (b - 1)) v) p (row_set new i (b - 1) v h ∙ e)
+  -- the words of node i written, in the part that is its own
+  pub filled_part : (i : ℕ) (words before own rest : List ℕ) → 64 * i + 64 ≤ length words → length own ≡ 64 → before ≡ take (64 * i) words → rest ≡ drop (64 * i) words
+      → (sort_of requirement_sorts (x i).op ≡ 2 → (b : ℕ) → b < n → get_or own b 0 ≡ row n (holds (formula_at x i) σ μ) b)
+      → (sort_of requirement_sorts (x i).op ≡ 1 → get_or own 0 0 ≡ word n (λ t. holds_at (proposition_at x i) σ μ t))
+      → Filled x σ μ n i words (before ++ (own ++ drop 64 rest))
+  filled_part i words before own rest inside long front back rows column =
+      subst (λ (new : List ℕ). Filled x σ μ n i words new) (sym (ap₂ (λ (a b : List ℕ). a ++ (own ++ drop 64 b)) front back))
       (record {
-        later = λ c l u. row_other new i (b - 1) v i c (omega arith) (omega arith) (λ _ y. absurd (omega arith)) ∙ t.later c l u;
-        beside = λ k c l ne. row_other new i (b - 1) v k c (omega arith) l (λ y _. ne y) ∙ t.beside k c l ne;
-      })
-
-  pub partly_all : (i b : ℕ) (old new : List ℕ) → b ≡ 0 → sort_of requirement_sorts (x i).op ≡ 2 → Partly x σ μ n i b old new → Filled x σ μ n i old new
-  partly_all i b old new z s t =
-      record {
-        done = record { rows = λ _ c h. t.later c (omega arith) h; column = λ u. absurd (omega arith) };
-        others = t.beside;
-      }
-
-  -- a fill of node i whose rows were cleared before it
-  pub filled_cleared : (i : ℕ) (old clear new : List ℕ) → Cleared i n old clear → Filled x σ μ n i clear new → Filled x σ μ n i old new
-  filled_cleared i old clear new c f =
-      record { done = f.done; others = λ k b l ne. f.others k b l ne ∙ c.beside k b l ne }
-
-  -- a proposition's column
-  pub column_put : (i v place : ℕ) (old : List ℕ) → place ≡ 64 * i → 64 * i + 64 ≤ length old → sort_of requirement_sorts (x i).op ≡ 1
-      → v ≡ word n (λ t. holds_at (proposition_at x i) σ μ t) → Filled x σ μ n i old (set old place v)
-  column_put i v place old p h s e =
-      let start : 64 * i + 0 ≡ place = omega arith in
-      subst (λ (k : ℕ). Filled x σ μ n i old (set old k v)) start
-      (record {
-        done = record { rows = λ u b l. absurd (omega arith); column = λ u. row_set old i 0 v (omega arith) ∙ e };
-        others = λ k c l ne. row_other old i 0 v k c (omega arith) l (λ y _. ne y);
+        done = record {
+          rows = λ s b l. part_rows (64 * i) 64 words own inside long i b refl (omega arith) ∙ rows s b l;
+          column = λ s. part_rows (64 * i) 64 words own inside long i 0 refl (omega arith) ∙ column s;
+        };
+        others = λ k b l ne. part_beside (64 * i) 64 words own inside long i k b refl (omega arith) l ne;
       })
 
 -- what is made of node i is right
@@ -160,51 +136,61 @@ module _ {nodes : List ℕ} {count n : ℕ} {columns words : List ℕ} (g : Give
       (λ e. (before.earlier (node_at nodes i).b (o.b_proposition e).less).column (o.b_proposition e).sorted)
       ∙ ap (λ (q : Proposition). word n (λ t. holds_at q σ μ t)) (sym (proposition_law requirement_sorts (node_at nodes) i (operands_at g i h)))
 
-  pub row_law : (old now : List ℕ) (first second b : ℕ) → b < n → Before (node_at nodes) σ μ n old i
-      → Before (node_at nodes) σ μ n now i → sort_of requirement_sorts (node_at nodes i).op ≡ 2
-      → first ≡ first_column (node_at nodes i).op (node_at nodes i) columns old
-      → second ≡ second_column (node_at nodes i).op (node_at nodes i) columns
-      → ((c : ℕ) → b < c → c < n → row_at now i c ≡ row n (holds (formula_at (node_at nodes) i) σ μ) c)
-      → row_of (formula_op (node_at nodes i).op) (node_at nodes i) n first second now i b ≡ row n (holds (formula_at (node_at nodes) i) σ μ) b
+  pub row_law : (before : List ℕ) (first second b : ℕ) → b < n → Before (node_at nodes) σ μ n before i → sort_of requirement_sorts (node_at nodes i).op ≡ 2
+      → first ≡ first_column (node_at nodes i).op (node_at nodes i) columns before
+      → second ≡ second_column (node_at nodes i).op (node_at nodes i) columns → ((node_at nodes i).op ≡ 23 → ⊥)
+      → row_of (formula_op (node_at nodes i).op) (node_at nodes i) n first second before i b ≡ row n (holds (formula_at (node_at nodes) i) σ μ) b
   unfolding Lines Column Rows
-  row_law old now first second b inside was before s u v later =
+  row_law before first second b inside was s u v other =
       let o = operands requirement_sorts (node_at nodes) i (operands_at g i h) in
-      line_is (node_at nodes i) n columns σ μ now (tells n columns g.columned) g.few_cycles (proposition_at (node_at nodes)) (formula_at (node_at nodes)) old
+      line_is (node_at nodes i) n columns σ μ before (tells n columns g.columned) g.few_cycles (proposition_at (node_at nodes)) (formula_at (node_at nodes)) before
       first second i b inside (node_at nodes i).op s (usable g i h).a_signal_holds u v
       (λ d. (was.earlier (node_at nodes i).a (o.a_proposition d).less).column (o.a_proposition d).sorted)
-      (λ d. (before.earlier (node_at nodes i).a (o.a_formula d).less).rows (o.a_formula d).sorted)
-      (λ d. (before.earlier (node_at nodes i).b (o.b_formula d).less).rows (o.b_formula d).sorted)
-      (λ c l m. subst Is law later c l m)
-      ∙ ap (λ (f : Formula). row n (holds f σ μ) b) (sym law)
+      (λ d. (was.earlier (node_at nodes i).a (o.a_formula d).less).rows (o.a_formula d).sorted)
+      (λ d. (was.earlier (node_at nodes i).b (o.b_formula d).less).rows (o.b_formula d).sorted)
+      other
+      ∙ ap (λ (f : Formula). row n (holds f σ μ) b)
+      (sym (formula_law requirement_sorts (node_at nodes) i (operands_at g i h)))
+
+  -- a star's rows, the last first
+  pub star_law : (before own : List ℕ) → Before (node_at nodes) σ μ n before i → (node_at nodes i).op ≡ 23
+      → ((b : ℕ) → b < n → get_or own b 0 ≡ starred (row_at before (node_at nodes i).a b) (λ k. get_or own k 0) b)
+      → (b : ℕ) → b < n → get_or own b 0 ≡ row n (holds (formula_at (node_at nodes) i) σ μ) b
+  unfolding formula_op formula_of
+  star_law before own was op rows b inside = go n b (omega arith) inside
     where
-      law : formula_at (node_at nodes) i ≡ formula_of (formula_op (node_at nodes i).op) (node_at nodes i) (proposition_at (node_at nodes)) (formula_at (node_at nodes))
-      law = formula_law requirement_sorts (node_at nodes) i (operands_at g i h)
+      f : Formula
+      f = formula_at (node_at nodes) (node_at nodes i).a
 
-      Is : Formula → Type 0
-      Is f = (c : ℕ) → b < c → c < n → row_at now i c ≡ row n (holds f σ μ) c
+      law : formula_at (node_at nodes) i ≡ star f
+      law = rw op at (formula_law requirement_sorts (node_at nodes) i (operands_at g i h))
 
-  -- row b - 1 of node i, which was read as y, where the later rows are right
-  pub row_right : (y : Node) (first second b v : ℕ) (old now : List ℕ) → y ≡ node_at nodes i → sort_of requirement_sorts (node_at nodes i).op ≡ 2
-      → 0 < b → b ≤ n → Before (node_at nodes) σ μ n old i
-      → first ≡ first_column y.op y columns old → second ≡ second_column y.op y columns
-      → v ≡ row_of (formula_op y.op) y n first second now i (b - 1)
-      → Partly (node_at nodes) σ μ n i b old now → v ≡ row n (holds (formula_at (node_at nodes) i) σ μ) (b - 1)
-  row_right y first second b v old now e s p m before u w r t =
-      r
-      ∙ ap (λ (x : Node). row_of (formula_op x.op) x n first second now i (b - 1)) e
-      ∙ row_law old now first second (b - 1) (omega arith) before (before_kept g.few_cycles i old now t.beside before) s
-      (u ∙ ap (λ (x : Node). first_column x.op x columns old) e) (w ∙ ap (λ (x : Node). second_column x.op x columns) e)
-      (λ c a z. t.later c (omega arith) z)
+      go : (k b : ℕ) → n ≤ b + k → b < n → get_or own b 0 ≡ row n (holds (formula_at (node_at nodes) i) σ μ) b
+      go zero b l inside = absurd (omega arith)
+      go (suc k) b l inside =
+          let o = (operands requirement_sorts (node_at nodes) i (operands_at g i h)).a_formula (joins_formula (node_at nodes i).op (omega arith) (omega arith)) in
+          rows b inside
+          ∙ ap (λ (z : ℕ). starred z (λ k. get_or own k 0) b) ((was.earlier (node_at nodes i).a o.less).rows o.sorted b inside)
+          ∙ star_holds n g.few_cycles σ μ b inside f (λ k. get_or own k 0) (λ c p q. go k c (omega arith) q ∙ ap (λ (f : Formula). row n (holds f σ μ) c) law)
+          ∙ ap (λ (f : Formula). row n (holds f σ μ) b) (sym law)
 
-  -- that row written
-  pub partly_row : (y : Node) (first second b v : ℕ) (old now : List ℕ) → y ≡ node_at nodes i → sort_of requirement_sorts (node_at nodes i).op ≡ 2
-      → 0 < b → b ≤ n → length now ≡ length words → Before (node_at nodes) σ μ n old i
-      → first ≡ first_column y.op y columns old → second ≡ second_column y.op y columns
-      → v ≡ row_of (formula_op y.op) y n first second now i (b - 1)
-      → Partly (node_at nodes) σ μ n i b old now → Partly (node_at nodes) σ μ n i (b - 1) old (set now (64 * i + (b - 1)) v)
-  partly_row y first second b v old now e s p m l before u w r t =
-      partly_more g.few_cycles i b v old now p m (omega (arith, g.few_cycles, g.words_long))
-      (row_right y first second b v old now e s p m before u w r t) t
+  -- the rows of a formula node, which was read as y
+  pub rows_right : (y : Node) (before own : List ℕ) → y ≡ node_at nodes i → sort_of requirement_sorts (node_at nodes i).op ≡ 2
+      → Before (node_at nodes) σ μ n before i → step.Rows y i n columns before own
+      → (b : ℕ) → b < n → get_or own b 0 ≡ row n (holds (formula_at (node_at nodes) i) σ μ) b
+  rows_right y before own e s was made b inside =
+      let op = ap (λ (x : Node). x.op) e in
+      elim (test (eqb y.op 23)) [
+        | inl t ↦ (
+            let at = eqb-true y.op 23 t in
+            star_law before own was (sym op ∙ at)
+            (λ c l. made.star at c l ∙ ap (λ (x : Node). starred (row_at before x.a c) (λ k. get_or own k 0) c) e) b inside)
+        | inr t ↦ (
+            let other = eqb-false y.op 23 t in
+            made.rows other b inside
+            ∙ ap (λ (x : Node). row_of (formula_op x.op) x n (first_column x.op x columns before) (second_column x.op x columns) before i b) e
+            ∙ row_law before _ _ b inside was s refl refl (λ o. other (op ∙ o)))
+      ]
 
 -- other columns, and other words of the same length
 pub given_other : {nodes : List ℕ} {count n : ℕ} {columns old : List ℕ} (columns' new : List ℕ) → IsColumns n columns' → length new ≡ length old

@@ -10,10 +10,10 @@ use lib.Pow.{pow_pos}
 use Rattle.semantics.specs.Proposition.{Proposition, Trace, Marks, bit, signal_at, holds_at}
 use Rattle.semantics.specs.Formula.{Formula, holds}
 use Rattle.semantics.proofs.Tests.{and_true_right}
-use Rattle.rows.specs.Row.{word, row, joined, starred}
+use Rattle.rows.specs.Row.{word, row, joined}
 use Rattle.rows.proofs.Bits.{bit_nothing}
 use Rattle.rows.proofs.Rows.{word_small, word_bit, is_word_lem, is_word_in, word_and, word_or, word_not}
-use Rattle.rows.proofs.Formulas.{point_holds, stretch_holds, whole_holds, unit_holds, chop_holds, conjunction_holds, disjunction_holds, star_holds, slen_holds, scount_holds, sdur_holds, drawn_holds, at_holds, gap_holds}
+use Rattle.rows.proofs.Formulas.{point_holds, stretch_holds, whole_holds, unit_holds, chop_holds, conjunction_holds, disjunction_holds, slen_holds, scount_holds, sdur_holds, drawn_holds, at_holds, gap_holds}
 use Rattle.stored.specs.declared.Node.{Node}
 use Rattle.stored.specs.declared.nodes.Use.TheVariants.{Signal, PropositionNode, FormulaNode}
 use Rattle.stored.specs.Node.{requirement_sorts, sort_of, a_use, b_use, q_use}
@@ -65,11 +65,12 @@ module _ (x : Node) (n : ℕ) (columns : List ℕ) (σ : Trace) (μ : Marks) (wo
     unfoldable pub Rows : ℕ → Type 0
     Rows v = (c : ℕ) → c < n → row_at words v c ≡ row n (holds (f v) σ μ) c
 
+    -- every op but a star, whose rows are from its own later ones
     unfoldable pub Lines : ℕ → Type 0
     Lines k =
         sort_of requirement_sorts k ≡ 2 → (a_use k ≡ Signal → x.a < 16) → first ≡ first_column k x columns old → second ≡ second_column k x columns
         → (a_use k ≡ PropositionNode → Column old x.a) → (a_use k ≡ FormulaNode → Rows x.a) → (b_use k ≡ FormulaNode → Rows x.b)
-        → ((c : ℕ) → b < c → c < n → row_at words own c ≡ row n (holds (formula_of (formula_op k) x p f) σ μ) c)
+        → (k ≡ 23 → ⊥)
         → row_of (formula_op k) x n first second words own b ≡ row n (holds (formula_of (formula_op k) x p f) σ μ) b
 
     -- the column of the node's proposition
@@ -81,30 +82,29 @@ module _ (x : Node) (n : ℕ) (columns : List ℕ) (σ : Trace) (μ : Marks) (wo
     unfolding Lines Column Rows sort_of a_use b_use q_use first_column second_column of_first of_two row_of formula_op formula_of
     line_is k =
         formula_cases Lines
-        (λ s h u v c r₁ r₂ later. point_holds n few σ μ b inside first (p x.a) (held u (c refl)))
-        (λ s h u v c r₁ r₂ later. stretch_holds n few σ μ b inside first (p x.a) (held u (c refl)))
-        (λ s h u v c r₁ r₂ later. whole_holds n few σ μ b inside first (p x.a) (held u (c refl)))
-        (λ s h u v c r₁ r₂ later. unit_holds n few σ μ b inside first (p x.a) (held u (c refl)))
-        (λ s h u v c r₁ r₂ later.
+        (λ s h u v c r₁ r₂ other. point_holds n few σ μ b inside first (p x.a) (held u (c refl)))
+        (λ s h u v c r₁ r₂ other. stretch_holds n few σ μ b inside first (p x.a) (held u (c refl)))
+        (λ s h u v c r₁ r₂ other. whole_holds n few σ μ b inside first (p x.a) (held u (c refl)))
+        (λ s h u v c r₁ r₂ other. unit_holds n few σ μ b inside first (p x.a) (held u (c refl)))
+        (λ s h u v c r₁ r₂ other.
         ap (λ (z : ℕ). joined z (row_at words x.b)) (r₁ refl b inside)
         ∙ chop_holds n few σ μ b inside (f x.a) (f x.b) (row_at words x.b) (λ i m. r₂ refl i m))
-        (λ s h u v c r₁ r₂ later.
+        (λ s h u v c r₁ r₂ other.
         ap₂ bit_and (r₁ refl b inside) (r₂ refl b inside) ∙ conjunction_holds n few σ μ b inside (f x.a) (f x.b))
-        (λ s h u v c r₁ r₂ later.
+        (λ s h u v c r₁ r₂ other.
         ap₂ bit_or (r₁ refl b inside) (r₂ refl b inside) ∙ disjunction_holds n few σ μ b inside (f x.a) (f x.b))
-        (λ s h u v c r₁ r₂ later.
-        ap (λ (z : ℕ). starred z (row_at words own) b) (r₁ refl b inside) ∙ star_holds n few σ μ b inside (f x.a) (row_at words own) later)
-        (λ s h u v c r₁ r₂ later. slen_holds n few σ μ b inside (comparison_of x.q) x.b)
-        (λ s h u v c r₁ r₂ later. scount_holds n few σ μ b inside (comparison_of x.q) x.b first (p x.a) (held u (c refl)))
-        (λ s h u v c r₁ r₂ later. sdur_holds n few σ μ b inside (comparison_of x.q) x.b first (p x.a) (held u (c refl)))
-        (λ s h u v c r₁ r₂ later.
+        (λ s h u v c r₁ r₂ other. absurd (other refl))
+        (λ s h u v c r₁ r₂ other. slen_holds n few σ μ b inside (comparison_of x.q) x.b)
+        (λ s h u v c r₁ r₂ other. scount_holds n few σ μ b inside (comparison_of x.q) x.b first (p x.a) (held u (c refl)))
+        (λ s h u v c r₁ r₂ other. sdur_holds n few σ μ b inside (comparison_of x.q) x.b first (p x.a) (held u (c refl)))
+        (λ s h u v c r₁ r₂ other.
         drawn_holds n few σ μ b inside (symbol_of x.q) x.a first
         (column_bit first (λ t. signal_at σ x.a t) (u ∙ told.signal x.a (h refl))))
-        (λ s h u v c r₁ r₂ later. at_holds n few σ μ b inside x.a first (column_bit first (λ t. μ x.a t) (u ∙ told.name x.a)))
-        (λ s h u v c r₁ r₂ later.
+        (λ s h u v c r₁ r₂ other. at_holds n few σ μ b inside x.a first (column_bit first (λ t. μ x.a t) (u ∙ told.name x.a)))
+        (λ s h u v c r₁ r₂ other.
         gap_holds n few σ μ b inside (x.q / 16) (x.q % 16) first second x.a x.b
         (column_bit first (λ t. μ (x.q / 16) t) (u ∙ told.name (x.q / 16))) (column_bit second (λ t. μ (x.q % 16) t) (v ∙ told.name (x.q % 16))))
-        (λ s h u v c r₁ r₂ later. absurd (omega arith))
-        (λ s h u v c r₁ r₂ later. absurd (omega arith))
+        (λ s h u v c r₁ r₂ other. absurd (omega arith))
+        (λ s h u v c r₁ r₂ other. absurd (omega arith))
         k
-        (λ none s h u v c r₁ r₂ later. absurd (is_formula k s none))
+        (λ none s h u v c r₁ r₂ other. absurd (is_formula k s none))

@@ -1,11 +1,13 @@
 -- What rules 6 and 7 say of one node.
-use Prim.Native.Nat.{ℕ, ◌/◌, ◌%◌, ◌<◌}
-use mathlib.Core.Bool.{true, not, ◌&&◌}
+use Prim.Native.Nat.{ℕ, ◌/◌, ◌%◌, ◌<◌, ◌+◌, ◌*◌}
+use mathlib.Core.Bool.{true, not}
 use mathlib.Core.List.{List}
 use mathlib.Core.Path.{◌≡◌, sym, ap, subst, ◌∙◌}
 use native.Mathlib.Omega.{arith}
 use borrow.Author.Tests.{ltb-true, eqb-false, not-true}
 use lib.Dec.{ltb, eqb}
+use lib.ListN.{length, take}
+use lib.Seq.{length-take-le}
 use Rattle.stored.specs.declared.Node.{Node}
 use Rattle.stored.specs.declared.nodes.Use.{Use}
 use Rattle.stored.specs.declared.nodes.Use.TheVariants.{Signal, Name, Comparison, Symbol, TwoNames}
@@ -16,7 +18,7 @@ use Rattle.stored.proofs.Tree.{operands}
 use Rattle.stored.proofs.Reach.{NodesKept}
 use Rattle.tables.specs.Ready.{Given}
 use Rattle.tables.specs.Step.{Usable, is_pair}
-use Rattle.tables.proofs.Uses.{Ops, proposition_ops, formula_ops_lem, joins_formula, pair_of, pair_formula, pair_right, star_formula}
+use Rattle.tables.proofs.Uses.{Ops, proposition_ops, formula_ops_lem, formula_left, joins_formula, pair_of, pair_formula, pair_right, star_formula}
 
 -- what a field's use says of its value
 record FieldKept (s m : ℕ) (what : Use) (v : ℕ) : Type 0 where
@@ -105,6 +107,19 @@ module _ {nodes : List ℕ} {count n : ℕ} {columns words : List ℕ} (g : Give
         first_name_holds = λ e. let l = k.q_field.first e in omega (arith, g.few_names);
         second_name = λ e. let l = k.q_field.second e in omega (arith, g.few_names);
       }
+
+  -- the sort of a node that was read, told by a number
+  pub proposition_sort : (i s : ℕ) (r : Node) → r ≡ node_at nodes i → s ≡ sort_of requirement_sorts r.op → s ≡ 1 → sort_of requirement_sorts (node_at nodes i).op ≡ 1
+  proposition_sort i s r e t one = ap (λ (y : Node). sort_of requirement_sorts y.op) (sym e) ∙ sym t ∙ one
+
+  pub formula_sort : (i s : ℕ) (r : Node) → i < count → r ≡ node_at nodes i → s ≡ sort_of requirement_sorts r.op → (s ≡ 1 → ⊥)
+      → sort_of requirement_sorts (node_at nodes i).op ≡ 2
+  formula_sort i s r h e t other =
+      formula_left _ (node_sorted i h) (λ one. other (t ∙ ap (λ (y : Node). sort_of requirement_sorts y.op) e ∙ one))
+
+  -- the part of the words that is node i's own, at the head of those from its first on
+  pub own_long : (i : ℕ) (rest : List ℕ) → i < count → length rest + 64 * i ≡ length words → length (take 64 rest) ≡ 64
+  own_long i rest h e = length-take-le 64 rest (omega (arith, g.words_long))
 
   -- a node that was read, with the ops of its sort
   pub proposition_read : (i : ℕ) (r : Node) → i < count → r ≡ node_at nodes i → sort_of requirement_sorts (node_at nodes i).op ≡ 1 → Usable r i × Ops 1 8 r.op

@@ -12,7 +12,7 @@ use Rattle.stored.specs.declared.Node.{Node}
 use Rattle.stored.specs.declared.nodes.Use.TheVariants.{Comparison, FormulaNode}
 use Rattle.stored.specs.Bytes.{every_below}
 use Rattle.stored.specs.Node.{requirement_sorts, sort_of, a_use, b_use, q_use}
-use Rattle.semantics.proofs.Tests.{test, both, and_left, and_right}
+use Rattle.semantics.proofs.Tests.{test, both, and_left, and_right, is_false}
 use Rattle.tables.specs.Step.{first_column, second_column, of_first, of_two, is_pair}
 use Rattle.stored.proofs.Rules.{asked, every_number, each_between}
 
@@ -75,6 +75,14 @@ pair_of k l h = both (le-leb 20 k l) (lt-ltb k 23 h)
 pub no_pair : (k : ℕ) → is_pair k ≡ false → 20 ≤ k → 23 ≤ k
 unfolding is_pair
 no_pair k e l = ltb-false k 23 (ap (λ (t : Bool). t && ltb k 23) (sym (le-leb 20 k l)) ∙ e)
+
+pub pair_not : (k : ℕ) → (k ≡ 20 → ⊥) → (k ≡ 21 → ⊥) → (k ≡ 22 → ⊥) → is_pair k ≡ false
+pair_not k a b c =
+    is_false (is_pair k) (λ e.
+    let o = pair_ops k e in
+    let least = o.least in
+    let most = o.most in
+    absurd (omega arith))
 
 pair_told : (P : ℕ → Type 0) → P 20 → P 21 → P 22 → (k : ℕ) → is_pair k ≡ true → P k
 pair_told P p q r k e =

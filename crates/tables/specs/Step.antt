@@ -1,5 +1,5 @@
 -- What a fill makes of one node from its operands' words. The laws say that it is the node's table.
-use Rattle.std.specs.Prelude.{ℕ, ◌+◌, ◌-◌, ◌/◌, ◌%◌, ◌^◌, ◌<◌, Bool, ◌&&◌, List, ◌≡◌, leb, ltb, eqb}
+use Rattle.std.specs.Prelude.{ℕ, ◌+◌, ◌-◌, ◌/◌, ◌%◌, ◌^◌, ◌<◌, Bool, ◌&&◌, List, ◌≡◌, leb, ltb, eqb, get_or}
 use Rattle.std.specs.Int.Bits.{bit_and, bit_or}
 use Rattle.semantics.specs.Cycles.{some_in, every_from, every_in, count_from, count_in}
 use Rattle.semantics.specs.Proposition.{bit}
@@ -10,7 +10,7 @@ use Rattle.stored.specs.declared.nodes.Use.{Use}
 use Rattle.stored.specs.declared.nodes.Use.TheVariants.{Signal, Name, Comparison, Symbol, TwoNames, PropositionNode, FormulaNode}
 use Rattle.traces.specs.Columns.{first_name, column_at}
 use Rattle.stored.specs.Node.{a_use, b_use, q_use}
-use Rattle.stored.specs.Tree.{PropositionOp, never_op, always_op, signal_op, name_op, negated_op, both_op, either_op, no_proposition, FormulaOp, point_op, stretch_op, whole_op, unit_op, chop_op, conjunction_op, disjunction_op, star_op, slen_op, scount_op, sdur_op, drawn_op, at_op, gap_op, negation_op, for_some_op, no_formula, comparison_of, symbol_of}
+use Rattle.stored.specs.Tree.{PropositionOp, never_op, always_op, signal_op, name_op, negated_op, both_op, either_op, no_proposition, FormulaOp, point_op, stretch_op, whole_op, unit_op, chop_op, conjunction_op, disjunction_op, star_op, slen_op, scount_op, sdur_op, drawn_op, at_op, gap_op, negation_op, for_some_op, no_formula, comparison_of, symbol_of, formula_op}
 use Rattle.tables.specs.Table.{row_at}
 
 -- the fields of a node that rules 6 and 7 take, where `before` nodes stand before it
@@ -81,11 +81,8 @@ row_of negation_op x n first second words own b = 0
 row_of for_some_op x n first second words own b = 0
 row_of no_formula x n first second words own b = 0
 
--- the rows of node i below n have no end
-pub record Empty (i n : ℕ) (words : List ℕ) : Type 0 where
-  pub none : (b : ℕ) → b < n → row_at words i b ≡ 0
-
--- they have none now, and the words of the other nodes are as they were
-pub record Cleared (i n : ℕ) (old new : List ℕ) : Type 0 where
-  pub empty : Empty i n new
-  pub beside : (k b : ℕ) → b < 64 → (k ≡ i → ⊥) → row_at new k b ≡ row_at old k b
+-- A formula node's rows below n, from the words of the nodes before it. A star's are from its own later rows too.
+pub record Rows (x : Node) (i n : ℕ) (columns before own : List ℕ) : Type 0 where
+  pub rows : (x.op ≡ 23 → ⊥) → (b : ℕ) → b < n
+      → get_or own b 0 ≡ row_of (formula_op x.op) x n (first_column x.op x columns before) (second_column x.op x columns) before i b
+  pub star : x.op ≡ 23 → (b : ℕ) → b < n → get_or own b 0 ≡ starred (row_at before x.a b) (λ k. get_or own k 0) b

@@ -1,170 +1,136 @@
 // Fills of the words: every node that reaches a name that moved, in the order of the nodes.
-ghost use Rattle.std.specs.Prelude.{◌≡◌, true, false, ◌≤◌, ◌<◌, length};
+ghost use Rattle.std.specs.Prelude.{ℕ, ◌≡◌, false, ◌+◌, ◌*◌, ◌≤◌, ◌<◌, length, slice_index};
+ghost use Rattle.rows.specs.Row.{joined, starred};
 ghost use Rattle.traces.specs.Columns.{trace_of, marks_of};
-ghost use Rattle.stored.specs.Node.{node_at, requirement_sorts, sort_of, proposition, formula};
-ghost use Rattle.tables.specs.Table.{Inside, Tables};
-ghost use Rattle.tables.specs.Step.{is_pair, Empty};
+ghost use Rattle.stored.specs.Node.{node_at};
+ghost use Rattle.tables.specs.Table.{Inside, Tables, row_at};
+ghost use Rattle.stored.specs.Tree.{formula_op};
+ghost use Rattle.tables.specs.Step.{Usable, Rows, is_pair, row_of, first_column, second_column};
 ghost use Rattle.tables.specs.Ready.{Given, Ready, Before, Filled, Kept, with_name, changed, with_names, changed_names};
 
 use crate::column;
-use crate::line::{and_or_row, drawing_row, is_pair, plain_row};
-use crate::words::{clear_rows, joined_at, row_at};
+use crate::line::{and_or_row, drawing_row, plain_row};
+use crate::words::{joined_at, row_at};
+use rows::join::join_more;
 use rows::mask::{below, only};
+use stored::Node;
 use stored::layout::MOST_NODES;
 use stored::masks::name_mask;
-use stored::nodes::node_at;
-use stored::ops::{CHOP, STAR};
+use stored::nodes::{node_at, sort_of};
+use stored::ops::{AND, CHOP, GAP, MARK, OR, STAR, SYMBOL};
 use traces::trace::FIRST_NAME;
 
-// The column of proposition node i, from those of earlier nodes.
-fn put_column(nodes: &[u8], count: usize, n: usize, columns: &[u64], i: usize, words: &mut [u64])
-    requires given { Given nodes.now count n columns.now words.old }
-    requires before { Before (node_at nodes.now) (trace_of n columns.now) (marks_of columns.now) n words.old i }
-    requires known_node { (i < count) × (sort_of requirement_sorts (node_at nodes.now i).op ≡ proposition) }
-    ensures { Filled (node_at nodes.now) (trace_of n columns.now) (marks_of columns.now) n i words.old words.new }
+// Each row of a node below n, by a function of its cycle.
+fn put_each<F: Fn(usize) -> u64>(own: &mut [u64], n: usize, row: F)
+    requires callable { (b : ℕ) → b < n → F.pre row b }
+    requires long_enough { n ≤ length own.old }
+    ensures { (b : ℕ) → b < n → F.post row b (slice_index own.new b) }
 {
-    let x = node_at(nodes, i);
-    let set = column::proposition(x, i, n, columns, words);
-    words[64 * i] = set;
+    for b in 0..n {
+        own[b] = row(b);
+    }
 }
 
-// The rows of a chop at node i, the last first, from those of earlier nodes, where no row has an end yet. A row of the first operand
-// often has all ends of the one after it, as in a stretch: what those joined is kept, and only what starts at its other ends is
-// joined to it. Where it has no end, nothing is written.
-fn put_joined(nodes: &[u8], count: usize, n: usize, columns: &[u64], i: usize, words: &mut [u64])
-    requires given { Given nodes.now count n columns.now words.old }
-    requires before { Before (node_at nodes.now) (trace_of n columns.now) (marks_of columns.now) n words.old i }
-    requires known_node { (i < count) × ((node_at nodes.now i).op ≡ 20) × Empty i n words.old }
-    ensures { Filled (node_at nodes.now) (trace_of n columns.now) (marks_of columns.now) n i words.old words.new }
+// The rows of a chop below n, the last first, where none of them has an end yet. A row of the first operand often has all ends of the
+// one after it, as in a stretch: what those joined is kept, and only what starts at its other ends is joined to it. Where it has no end,
+// nothing is written.
+fn put_joined(x: Node, n: usize, before: &[u64], own: &mut [u64])
+    requires operands { (64 * x.a + 64 ≤ length before.now) × (64 * x.b + 64 ≤ length before.now) }
+    requires long_enough { (n ≤ 64) × (64 ≤ length own.old) }
+    requires empty { (b : ℕ) → b < n → slice_index own.old b ≡ 0 }
+    ensures { (b : ℕ) → b < n → slice_index own.new b ≡ joined (row_at before.now x.a b) (row_at before.now x.b) }
 {
-    let x = node_at(nodes, i);
-    let first = x.a;
-    let second = x.b;
     let mut had: u64 = 0;
     let mut kept: u64 = 0;
     for b in (0..n).rev() {
-        let ends = row_at(words, first, b);
+        let ends = row_at(before, x.a, b);
         if ends != 0 {
-            kept = joined_at(ends, had, kept, words, second);
+            kept = joined_at(ends, had, kept, before, x.b);
             had = ends;
-            words[64 * i + b] = kept;
+            own[b] = kept;
         }
     }
 }
 
-// The rows of a chop at node i, from those of earlier nodes. Rows past the last cycle are left as they are.
-fn put_chop(nodes: &[u8], count: usize, n: usize, columns: &[u64], i: usize, words: &mut [u64])
-    requires given { Given nodes.now count n columns.now words.old }
-    requires before { Before (node_at nodes.now) (trace_of n columns.now) (marks_of columns.now) n words.old i }
-    requires known_node { (i < count) × ((node_at nodes.now i).op ≡ 20) }
-    ensures { Filled (node_at nodes.now) (trace_of n columns.now) (marks_of columns.now) n i words.old words.new }
+// The rows of a chop below n.
+fn put_chop(x: Node, n: usize, before: &[u64], own: &mut [u64])
+    requires operands { (64 * x.a + 64 ≤ length before.now) × (64 * x.b + 64 ≤ length before.now) }
+    requires long_enough { (n ≤ 64) × (64 ≤ length own.old) }
+    ensures { (b : ℕ) → b < n → slice_index own.new b ≡ joined (row_at before.now x.a b) (row_at before.now x.b) }
 {
-    clear_rows(words, i, n);
-    put_joined(nodes, count, n, columns, i, words);
+    own[..n].fill(0);
+    put_joined(x, n, before, own);
 }
 
-// The same for an and or an or.
-fn put_and_or(nodes: &[u8], count: usize, n: usize, columns: &[u64], i: usize, words: &mut [u64])
-    requires given { Given nodes.now count n columns.now words.old }
-    requires before { Before (node_at nodes.now) (trace_of n columns.now) (marks_of columns.now) n words.old i }
-    requires known_node { (i < count) × (21 ≤ (node_at nodes.now i).op) × ((node_at nodes.now i).op < 23) }
-    ensures { Filled (node_at nodes.now) (trace_of n columns.now) (marks_of columns.now) n i words.old words.new }
+// The rows of a star below n: row b has b itself and the star's own rows that start where an interval of its formula from b ends, later
+// than b. As in a chop, what the links of the row after it joined is kept.
+fn put_star(x: Node, n: usize, before: &[u64], own: &mut [u64])
+    requires operand { 64 * x.a + 64 ≤ length before.now }
+    requires long_enough { (n ≤ 64) × (64 ≤ length own.old) }
+    ensures { (b : ℕ) → b < n → slice_index own.new b ≡ starred (row_at before.now x.a b) (slice_index own.new) b }
 {
-    let x = node_at(nodes, i);
-    for b in (0..n).rev() {
-        let row = and_or_row(x, n, words, i, b);
-        words[64 * i + b] = row;
-    }
-}
-
-// The same for a chop, an and or an or. Most nodes are such, and drawings are what moves with a name: each family has loops that tell
-// few ops apart.
-fn put_pair(nodes: &[u8], count: usize, n: usize, columns: &[u64], i: usize, words: &mut [u64])
-    requires given { Given nodes.now count n columns.now words.old }
-    requires before { Before (node_at nodes.now) (trace_of n columns.now) (marks_of columns.now) n words.old i }
-    requires known_node { (i < count) × (is_pair (node_at nodes.now i).op ≡ true) }
-    ensures { Filled (node_at nodes.now) (trace_of n columns.now) (marks_of columns.now) n i words.old words.new }
-{
-    let x = node_at(nodes, i);
-    let op = x.op;
-    if op == CHOP {
-        put_chop(nodes, count, n, columns, i, words);
-    } else {
-        put_and_or(nodes, count, n, columns, i, words);
-    }
-}
-
-// The same for a symbol, a mark or a gap.
-fn put_drawing(nodes: &[u8], count: usize, n: usize, columns: &[u64], i: usize, words: &mut [u64])
-    requires given { Given nodes.now count n columns.now words.old }
-    requires before { Before (node_at nodes.now) (trace_of n columns.now) (marks_of columns.now) n words.old i }
-    requires known_node { (i < count) × (sort_of requirement_sorts (node_at nodes.now i).op ≡ formula) × (27 ≤ (node_at nodes.now i).op) }
-    ensures { Filled (node_at nodes.now) (trace_of n columns.now) (marks_of columns.now) n i words.old words.new }
-{
-    let x = node_at(nodes, i);
-    let first = column::first(x, i, columns, words);
-    let second = column::second(x, i, columns);
-    for b in (0..n).rev() {
-        let row = drawing_row(x, n, first, second, words, i, b);
-        words[64 * i + b] = row;
-    }
-}
-
-// The same for a star: row b has b itself and the star's own rows that start where an interval of its formula from b ends, later than b.
-// As in a chop, what the links of the row after it joined is kept.
-fn put_star(nodes: &[u8], count: usize, n: usize, columns: &[u64], i: usize, words: &mut [u64])
-    requires given { Given nodes.now count n columns.now words.old }
-    requires before { Before (node_at nodes.now) (trace_of n columns.now) (marks_of columns.now) n words.old i }
-    requires known_node { (i < count) × ((node_at nodes.now i).op ≡ 23) }
-    ensures { Filled (node_at nodes.now) (trace_of n columns.now) (marks_of columns.now) n i words.old words.new }
-{
-    let x = node_at(nodes, i);
-    let first = x.a;
     let mut had: u64 = 0;
     let mut kept: u64 = 0;
     for b in (0..n).rev() {
-        let later = row_at(words, first, b) & !below(b + 1);
-        kept = joined_at(later, had, kept, words, i);
+        let later = row_at(before, x.a, b) & !below(b + 1);
+        kept = join_more(later, had, kept, own);
         had = later;
-        words[64 * i + b] = only(b) | kept;
+        own[b] = only(b) | kept;
     }
 }
 
-// The same for a bracket or a count.
-fn put_plain(nodes: &[u8], count: usize, n: usize, columns: &[u64], i: usize, words: &mut [u64])
-    requires given { Given nodes.now count n columns.now words.old }
-    requires before { Before (node_at nodes.now) (trace_of n columns.now) (marks_of columns.now) n words.old i }
-    requires known_node { (i < count) × (sort_of requirement_sorts (node_at nodes.now i).op ≡ formula) }
-    requires plain_op { ((node_at nodes.now i).op < 27) × (is_pair (node_at nodes.now i).op ≡ false) × ((node_at nodes.now i).op ≡ 23 → ⊥) }
-    ensures { Filled (node_at nodes.now) (trace_of n columns.now) (marks_of columns.now) n i words.old words.new }
+// The rows of an and or an or below n.
+fn put_and_or(x: Node, i: usize, n: usize, before: &[u64], own: &mut [u64])
+    requires usable { Usable x i }
+    requires known_op { (21 ≤ x.op) × (x.op < 23) × (n ≤ 64) }
+    requires long_enough { (64 * i ≤ length before.now) × (64 ≤ length own.old) }
+    ensures { (b : ℕ) → b < n → slice_index own.new b ≡ row_of (formula_op x.op) x n 0 0 before.now i b }
 {
-    let x = node_at(nodes, i);
-    let first = column::first(x, i, columns, words);
+    put_each(own, n, |b| and_or_row(x, n, before, i, b));
+}
+
+// The rows of a symbol, a mark or a gap below n.
+fn put_drawing(x: Node, i: usize, n: usize, columns: &[u64], before: &[u64], own: &mut [u64])
+    requires usable { Usable x i }
+    requires known_op { (27 ≤ x.op) × (x.op < 30) × (n ≤ 64) }
+    requires long_enough { (length columns.now ≡ 19) × (64 * i ≤ length before.now) × (64 ≤ length own.old) }
+    ensures { (b : ℕ) → b < n → slice_index own.new b ≡ row_of (formula_op x.op) x n (first_column x.op x columns.now before.now) (second_column x.op x columns.now) before.now i b }
+{
+    let first = column::first(x, i, columns, before);
     let second = column::second(x, i, columns);
-    for b in (0..n).rev() {
-        let row = plain_row(x, n, first, second, words, i, b);
-        words[64 * i + b] = row;
-    }
+    put_each(own, n, |b| drawing_row(x, n, first, second, before, i, b));
 }
 
-// The same for a bracket, a star or a count.
-fn put_rows(nodes: &[u8], count: usize, n: usize, columns: &[u64], i: usize, words: &mut [u64])
-    requires given { Given nodes.now count n columns.now words.old }
-    requires before { Before (node_at nodes.now) (trace_of n columns.now) (marks_of columns.now) n words.old i }
-    requires known_node { (i < count) × (sort_of requirement_sorts (node_at nodes.now i).op ≡ formula) }
-    requires plain_op { ((node_at nodes.now i).op < 27) × (is_pair (node_at nodes.now i).op ≡ false) }
-    ensures { Filled (node_at nodes.now) (trace_of n columns.now) (marks_of columns.now) n i words.old words.new }
+// The rows of a bracket or a count below n.
+fn put_plain(x: Node, i: usize, n: usize, columns: &[u64], before: &[u64], own: &mut [u64])
+    requires usable { Usable x i }
+    requires known_op { (16 ≤ x.op) × (x.op < 27) × (is_pair x.op ≡ false) × (x.op ≡ 23 → ⊥) × (n ≤ 64) }
+    requires long_enough { (length columns.now ≡ 19) × (64 * i ≤ length before.now) × (64 ≤ length own.old) }
+    ensures { (b : ℕ) → b < n → slice_index own.new b ≡ row_of (formula_op x.op) x n (first_column x.op x columns.now before.now) (second_column x.op x columns.now) before.now i b }
 {
-    let x = node_at(nodes, i);
-    let op = x.op;
-    if op == STAR {
-        put_star(nodes, count, n, columns, i, words);
-    } else {
-        put_plain(nodes, count, n, columns, i, words);
+    let first = column::first(x, i, columns, before);
+    let second = column::second(x, i, columns);
+    put_each(own, n, |b| plain_row(x, n, first, second, before, i, b));
+}
+
+// The rows of formula node i below n, from the words of the nodes before it. Most nodes are pairs, and drawings are what moves with a
+// name: each family has a loop that tells few ops apart.
+fn put_rows(x: Node, i: usize, n: usize, columns: &[u64], before: &[u64], own: &mut [u64])
+    requires usable { Usable x i }
+    requires known_op { (16 ≤ x.op) × (x.op < 30) × (n ≤ 64) }
+    requires long_enough { (length columns.now ≡ 19) × (64 * i ≤ length before.now) × (64 ≤ length own.old) }
+    ensures { Rows x i n columns.now before.now own.new }
+{
+    match x.op {
+        CHOP => put_chop(x, n, before, own),
+        AND | OR => put_and_or(x, i, n, before, own),
+        STAR => put_star(x, n, before, own),
+        SYMBOL | MARK | GAP => put_drawing(x, i, n, columns, before, own),
+        _ => put_plain(x, i, n, columns, before, own),
     }
 }
 
-// The words of node i.
+// The words of node i: a proposition's column, or a formula's rows. Rows past the last cycle are left as they are.
 fn put_node(nodes: &[u8], count: usize, n: usize, columns: &[u64], i: usize, words: &mut [u64])
     requires given { Given nodes.now count n columns.now words.old }
     requires before { Before (node_at nodes.now) (trace_of n columns.now) (marks_of columns.now) n words.old i }
@@ -172,20 +138,12 @@ fn put_node(nodes: &[u8], count: usize, n: usize, columns: &[u64], i: usize, wor
     ensures { Filled (node_at nodes.now) (trace_of n columns.now) (marks_of columns.now) n i words.old words.new }
 {
     let x = node_at(nodes, i);
-    let op = x.op;
-    if is_pair(op) {
-        put_pair(nodes, count, n, columns, i, words);
-        return;
-    }
-    let sort = stored::nodes::sort_of(op);
-    if sort == 1 {
-        put_column(nodes, count, n, columns, i, words);
-        return;
-    }
-    if op < 27 {
-        put_rows(nodes, count, n, columns, i, words);
+    let (before, rest) = words.split_at_mut(64 * i);
+    let own = &mut rest[..64];
+    if sort_of(x.op) == 1 {
+        own[0] = column::proposition(x, i, n, columns, before);
     } else {
-        put_drawing(nodes, count, n, columns, i, words);
+        put_rows(x, i, n, columns, before, own);
     }
 }
 

@@ -78,17 +78,10 @@ fn count_row(x: Node, n: usize, first: u64, second: u64, words: &[u64], own: usi
     }
 }
 
-// Chop, and, or.
-pub fn is_pair(op: usize) -> bool
-    ensures { result ≡ is_pair op }
-{
-    (20 <= op) & (op < 23)
-}
-
 // Row b of an and or an or.
 pub fn and_or_row(x: Node, n: usize, words: &[u64], own: usize, b: usize) -> u64
     requires usable { Usable x own }
-    requires known_op { (21 ≤ x.op) × (x.op < 23) × (b < n) × (n ≤ 64) × (64 * own + 64 ≤ length words.now) }
+    requires known_op { (21 ≤ x.op) × (x.op < 23) × (b < n) × (n ≤ 64) × (64 * own ≤ length words.now) }
     ensures { result ≡ row_of (formula_op x.op) x n 0 0 words.now own b }
 {
     let op = x.op;

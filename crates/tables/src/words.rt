@@ -2,7 +2,6 @@
 ghost use Rattle.std.specs.Prelude.{◌≡◌, ◌+◌, ◌*◌, ◌≤◌, ◌<◌, length, replicate};
 ghost use Rattle.rows.specs.Row.{joined};
 ghost use Rattle.tables.specs.Table.{row_at};
-ghost use Rattle.tables.specs.Step.{Cleared};
 
 use rows::join::join_more;
 
@@ -22,16 +21,6 @@ pub fn joined_at(row: u64, had: u64, kept: u64, words: &[u64], i: usize) -> u64
     let from = 64 * i;
     let to = from + 64;
     join_more(row, had, kept, &words[from..to])
-}
-
-// The rows of node i below n, without any end from now on.
-pub fn clear_rows(words: &mut [u64], i: usize, n: usize)
-    requires { (n ≤ 64) × (64 * i + 64 ≤ length words.old) }
-    ensures { Cleared i n words.old words.new }
-{
-    let from = 64 * i;
-    let to = from + n;
-    words[from..to].fill(0);
 }
 
 // Every word zero.

@@ -1,54 +1,84 @@
 -- `tables::fill::put_node` meets its contract.
-use mathlib.Core.Path.{sym, ◌∙◌, ap}
-use native.Mathlib.Omega.{arith}
+use Rattle.std.proofs.Common.{◌∙◌, ap, arith, take, length-set, get_or-set_same}
 use Rattle.stored.specs.declared.Node.{Node}
-use Rattle.stored.specs.Node.{requirement_sorts, sort_of}
-use Rattle.tables.specs.Step.{is_pair}
-use Rattle.tables.proofs.Uses.{formula_left}
-use Rattle.tables.proofs.Nodes.{node_sorted}
+use Rattle.stored.specs.Tree.{proposition_op}
+use Rattle.tables.specs.Step.{column_of}
+use Rattle.tables.proofs.Nodes.{proposition_sort, formula_sort, own_long, proposition_read, formula_read}
+use Rattle.tables.proofs.Fills.{before_part, column_law, rows_right, filled_part}
 use Rattle.tables.proofs.fill.put_node.Goals as goal
 
-pub node_at-x-requires : goal.node_at-x-requires
-node_at-x-requires c = omega (arith, c.requires.given)
+pub slice_bounds-own-end-2 : goal.slice_bounds-own-end-2
+slice_bounds-own-end-2 c =
+    let split = c.split_at_mut-before in
+    omega (arith, own_long c.requires.given c.args.i split.result.1.now c.requires.known_node split.ensures.back_len)
 
-pub put_pair-requires : goal.put_pair-requires
-put_pair-requires c =
-    let p = c.requires in
-    let pair = ap (λ (x : Node). is_pair x.op) (sym c.node_at-x.ensures) ∙ sym c.is_pair.ensures in
-    record { given = p.given; before = p.before; known_node = (p.known_node, pair ∙ c.if-is_pair.true) }
+pub proposition-requires-clause-usable : goal.proposition-requires-clause-usable
+proposition-requires-clause-usable c =
+    let q = c.requires in
+    let i = c.args.i in
+    let x = c.node_at-x in
+    (proposition_read q.given i x.result q.known_node x.ensures (proposition_sort q.given i _ x.result x.ensures c.sort_of.ensures c.if-sort_of-eq1.true)).0
 
-pub returns-then-is_pair : goal.returns-then-is_pair
-returns-then-is_pair c = c.put_pair.ensures
+pub proposition-requires-clause-known_op : goal.proposition-requires-clause-known_op
+proposition-requires-clause-known_op c =
+    let q = c.requires in
+    let g = q.given in
+    let i = c.args.i in
+    let x = c.node_at-x in
+    let ops = (proposition_read g i x.result q.known_node x.ensures (proposition_sort g i _ x.result x.ensures c.sort_of.ensures c.if-sort_of-eq1.true)).1 in
+    omega (arith, ops, g.few_cycles, g.columned.all, c.split_at_mut-before.ensures.front_len)
 
-pub put_column-requires : goal.put_column-requires
-put_column-requires c =
-    let p = c.requires in
-    let sort = ap (λ (x : Node). sort_of requirement_sorts x.op) (sym c.node_at-x.ensures) ∙ sym c.sort_of-sort.ensures in
-    record { given = p.given; before = p.before; known_node = (p.known_node, sort ∙ c.if-sort-eq1.true) }
+pub put_rows-requires-clause-usable : goal.put_rows-requires-clause-usable
+put_rows-requires-clause-usable c =
+    let q = c.requires in
+    let i = c.args.i in
+    let x = c.node_at-x in
+    (formula_read q.given i x.result q.known_node x.ensures (formula_sort q.given i _ x.result q.known_node x.ensures c.sort_of.ensures c.if-sort_of-eq1.false)).0
 
-pub returns-then-sort-eq1 : goal.returns-then-sort-eq1
-returns-then-sort-eq1 c = c.put_column.ensures
+pub put_rows-requires-clause-known_op : goal.put_rows-requires-clause-known_op
+put_rows-requires-clause-known_op c =
+    let q = c.requires in
+    let i = c.args.i in
+    let x = c.node_at-x in
+    let ops = (formula_read q.given i x.result q.known_node x.ensures (formula_sort q.given i _ x.result q.known_node x.ensures c.sort_of.ensures c.if-sort_of-eq1.false)).1 in
+    omega (arith, ops, q.given.few_cycles)
 
-pub put_rows-requires : goal.put_rows-requires
-put_rows-requires c =
+pub put_rows-requires-clause-long_enough : goal.put_rows-requires-clause-long_enough
+put_rows-requires-clause-long_enough c =
+    let g = c.requires.given in
+    let split = c.split_at_mut-before in
+    omega (arith, g.columned.all, split.ensures.front_len, own_long g c.args.i split.result.1.now c.requires.known_node split.ensures.back_len)
+
+pub returns-then-sort_of-eq1 : goal.returns-then-sort_of-eq1
+returns-then-sort_of-eq1 c =
     let a = c.args in
-    let p = c.requires in
-    let node = c.node_at-x.ensures in
-    let op = ap (λ (x : Node). x.op) (sym node) in
-    let sort = ap (λ (x : Node). sort_of requirement_sorts x.op) (sym c.node_at-x.ensures) ∙ sym c.sort_of-sort.ensures in
-    let pair = ap (λ (x : Node). is_pair x.op) (sym node) ∙ sym c.is_pair.ensures in
-    record { given = p.given; before = p.before; known_node = (p.known_node, formula_left _ (node_sorted p.given a.i p.known_node) (λ e. c.if-sort-eq1.false (sym sort ∙ e))); plain_op = (omega (arith, op, c.if-op-lt27.true), pair ∙ c.if-is_pair.false) }
+    let q = c.requires in
+    let g = q.given in
+    let x = c.node_at-x in
+    let split = c.split_at_mut-before in
+    let first = split.result.0.now in
+    let rest = split.result.1.now in
+    let own = take 64 rest in
+    let long = own_long g a.i rest q.known_node split.ensures.back_len in
+    let sort = proposition_sort g a.i _ x.result x.ensures c.sort_of.ensures c.if-sort_of-eq1.true in
+    let value =
+    c.proposition.ensures
+    ∙ ap (λ (y : Node). column_of (proposition_op y.op) y a.n a.columns.now first) x.ensures
+    ∙ column_law g a.i q.known_node first (before_part g.few_cycles a.i a.words.now first split.ensures.front q.before) sort in
+    filled_part g.few_cycles a.i a.words.now first _ rest (omega (arith, g)) (length-set own 0 _ ∙ long) split.ensures.front split.ensures.back
+    (λ s. absurd (omega arith)) (λ s. get_or-set_same own 0 _ 0 (omega arith) ∙ value)
 
-pub put_drawing-requires : goal.put_drawing-requires
-put_drawing-requires c =
+pub returns-else-sort_of-eq1 : goal.returns-else-sort_of-eq1
+returns-else-sort_of-eq1 c =
     let a = c.args in
-    let p = c.requires in
-    let op = ap (λ (x : Node). x.op) (sym c.node_at-x.ensures) in
-    let sort = ap (λ (x : Node). sort_of requirement_sorts x.op) (sym c.node_at-x.ensures) ∙ sym c.sort_of-sort.ensures in
-    record { given = p.given; before = p.before; known_node = (p.known_node, formula_left _ (node_sorted p.given a.i p.known_node) (λ e. c.if-sort-eq1.false (sym sort ∙ e)), (omega (arith, op, c.if-op-lt27.false))) }
-
-pub returns-then-op-lt27 : goal.returns-then-op-lt27
-returns-then-op-lt27 c = c.put_rows.ensures
-
-pub returns-else-op-lt27 : goal.returns-else-op-lt27
-returns-else-op-lt27 c = c.put_drawing.ensures
+    let q = c.requires in
+    let g = q.given in
+    let x = c.node_at-x in
+    let split = c.split_at_mut-before in
+    let first = split.result.0.now in
+    let rest = split.result.1.now in
+    let rows = c.put_rows in
+    let sort = formula_sort g a.i _ x.result q.known_node x.ensures c.sort_of.ensures c.if-sort_of-eq1.false in
+    filled_part g.few_cycles a.i a.words.now first rows.new.own rest (omega (arith, g)) (rows.auto.own ∙ own_long g a.i rest q.known_node split.ensures.back_len) split.ensures.front split.ensures.back
+    (λ s. rows_right g a.i q.known_node x.result first rows.new.own x.ensures sort (before_part g.few_cycles a.i a.words.now first split.ensures.front q.before) rows.ensures)
+    (λ s. absurd (omega arith))
