@@ -9,20 +9,21 @@ use lib.Dec.{leb, ltb, eqb}
 use lib.ListN.{length, get_or, take, drop}
 use Rattle.semantics.proofs.Tests.{and_right}
 use Rattle.stored.specs.declared.Header.{Header}
-use Rattle.stored.specs.declared.SheetAnswer.{SheetAnswer}
-use Rattle.stored.specs.declared.SheetAnswer.TheVariants.{Accepted}
+use Rattle.std.specs.Prelude.{Ok, Err}
+use Rattle.stored.specs.declared.refusal.Refusal.{Refusal}
+use Rattle.stored.specs.declared.refusal.Refusal.TheVariants.{InvalidCycles, FewWords, InvalidCycle, BoardFull}
+use Rattle.stored.specs.Refusal.{number_of, last_number}
+use Rattle.stored.proofs.Refusals.{refusal_applies, answered_value, answered_refusal, of_value, of_refusal}
 use Rattle.stored.specs.Bytes.{lowest}
 use Rattle.stored.specs.Layout.{most_cycles, least_words}
-use Rattle.stored.specs.Sheet.{header_of, sheet_refusal, sheet_answer, sheet_number}
-use Rattle.stored.specs.Tree.{pick}
+use Rattle.stored.specs.Sheet.{header_of, sheet_refusal, sheet_rules, sheet_answer}
 use Rattle.stored.proofs.Rules.{every_at, lowest_kept}
-use Rattle.stored.proofs.Accepted.{opened, answer_accepted, answer_refused, sheet_number_lem}
+use Rattle.stored.proofs.Accepted.{opened, answer_accepted, answer_refused}
 use Rattle.checker.specs.Table.{or_else, words_refusal}
-use Rattle.checker.proofs.Bounds.{or_zero}
+use Rattle.checker.proofs.Bounds.{lowest_small, or_small, or_zero}
 use Rattle.checker.proofs.Refusals.{or_first, or_second, words_few, words_many}
 use Rattle.lines.specs.Input.{split_at, sheet_of}
 use Rattle.board.specs.declared.Board.{Board}
-use Rattle.board.specs.declared.feed.Admission.{Admission}
 use Rattle.board.specs.Board.{sheet_on, signals_on, cycle_fits, held_at, held_right, board_refusal, cycle_rules, feed_refusal, admission_of}
 
 -- ---- where no number applies
@@ -61,22 +62,18 @@ unfolding sheet_on sheet_of
 sheet_part b end e = let whole : end - 0 ≡ split_at b.sheet = omega arith in ap (λ (k : ℕ). take k b.sheet) whole
 
 module _ (b : Board) (cycle : ℕ) (words : List ℕ) where
-  refused_as : (number : ℕ) → number ≡ feed_refusal b cycle words → eqb number 0 ≡ false → Admission.Refused number ≡ admission_of b cycle words
-  unfolding admission_of pick
-  refused_as number e z =
-      let q : eqb (feed_refusal b cycle words) 0 ≡ false = ap (λ (x : ℕ). eqb x 0) (sym e) ∙ z in
-      rw q (ap Admission.Refused e)
+  refused_as : (e : Refusal) → number_of e ≡ feed_refusal b cycle words → Err e ≡ admission_of b cycle words
+  unfolding admission_of
+  refused_as e is = answered_refusal (feed_refusal b cycle words) (signals_on b) e is
 
-  pub admit_sheet : (answer : SheetAnswer) (number k : ℕ) → answer ≡ sheet_answer (sheet_on b) → answer ≡ SheetAnswer.Refused k → number ≡ sheet_number answer
-      → Admission.Refused number ≡ admission_of b cycle words
+  pub admit_sheet : (e : Refusal) → sheet_answer (sheet_on b) ≡ Err e → Err e ≡ admission_of b cycle words
   unfolding feed_refusal board_refusal
-  admit_sheet answer number k read said e =
-      let n : number ≡ sheet_refusal (sheet_on b) = e ∙ ap sheet_number read ∙ sheet_number_lem (sheet_on b) in
-      let z = (answer_refused (sheet_on b) k (sym read ∙ said)).0 in
-      let first = or_first (sheet_refusal (sheet_on b)) (lowest 13 (held_right (signals_on b) b.taken b.cycles ∷ [])) z in
-      refused_as number (n ∙ sym (or_first _ _ (ap (λ (x : ℕ). eqb x 0) first ∙ z) ∙ first)) (ap (λ (x : ℕ). eqb x 0) n ∙ z)
+  admit_sheet e is =
+      let number = answer_refused (sheet_on b) e is in
+      let first = or_first (sheet_refusal (sheet_on b)) (lowest 13 (held_right (signals_on b) b.taken b.cycles ∷ [])) (refusal_applies e number) in
+      refused_as e (number ∙ sym (or_first _ _ (ap (λ (x : ℕ). eqb x 0) first ∙ refusal_applies e number) ∙ first))
 
-  module _ (h : Header) (accepted : sheet_answer (sheet_on b) ≡ Accepted h) where
+  module _ (h : Header) (accepted : sheet_answer (sheet_on b) ≡ Ok h) where
     pub signals_are : signals_on b ≡ h.signals
     unfolding signals_on
     signals_are = ap (λ (g : Header). g.signals) (answer_accepted (sheet_on b) h accepted).1
@@ -88,19 +85,20 @@ module _ (b : Board) (cycle : ℕ) (words : List ℕ) where
         (or_second (sheet_refusal (sheet_on b)) _ (answer_accepted (sheet_on b) h accepted).0
         ∙ ap (λ (s : ℕ). lowest 13 (held_right s b.taken b.cycles ∷ [])) signals_are)
 
-    pub admit_held : (ok : Bool) → ok ≡ held_right h.signals b.taken b.cycles → ok ≡ false → Admission.Refused 13 ≡ admission_of b cycle words
-    unfolding lowest or_else
-    admit_held ok e f = refused_as 13 (sym (at_held ∙ rw (sym e ∙ f))) refl
+    pub admit_held : (ok : Bool) → ok ≡ held_right h.signals b.taken b.cycles → ok ≡ false → Err InvalidCycles ≡ admission_of b cycle words
+    unfolding lowest or_else number_of
+    admit_held ok e f = refused_as InvalidCycles (sym (at_held ∙ rw (sym e ∙ f)))
 
     module _ (ok : Bool) (held : ok ≡ held_right h.signals b.taken b.cycles) (passed : ok ≡ true) where
       at_words : feed_refusal b cycle words ≡ or_else (words_refusal words) (lowest 21 (cycle_rules b cycle))
       unfolding lowest or_else
       at_words = at_held ∙ rw (sym held ∙ passed)
 
-      pub admit_words : length words < least_words → Admission.Refused 15 ≡ admission_of b cycle words
+      pub admit_words : length words < least_words → Err FewWords ≡ admission_of b cycle words
+      unfolding number_of
       admit_words l =
           let few = words_few words l in
-          refused_as 15 (sym (at_words ∙ or_first (words_refusal words) _ (ap (λ (x : ℕ). eqb x 0) few) ∙ few)) refl
+          refused_as FewWords (sym (at_words ∙ or_first (words_refusal words) _ (ap (λ (x : ℕ). eqb x 0) few) ∙ few))
 
       module _ (many : least_words ≤ length words) where
         at_cycle : feed_refusal b cycle words ≡ lowest 21 (cycle_fits h.signals cycle ∷ ltb b.taken most_cycles ∷ [])
@@ -110,40 +108,35 @@ module _ (b : Board) (cycle : ℕ) (words : List ℕ) where
             ∙ or_second (words_refusal words) _ (words_many words many)
             ∙ ap (λ (s : ℕ). lowest 21 (cycle_fits s cycle ∷ ltb b.taken most_cycles ∷ [])) signals_are
 
-        pub admit_signals : (fits : Bool) → fits ≡ ltb cycle (2 ^ h.signals) → fits ≡ false → Admission.Refused 21 ≡ admission_of b cycle words
-        unfolding lowest cycle_fits
-        admit_signals fits e f = refused_as 21 (sym (at_cycle ∙ rw (sym e ∙ f))) refl
+        pub admit_signals : (fits : Bool) → fits ≡ ltb cycle (2 ^ h.signals) → fits ≡ false → Err InvalidCycle ≡ admission_of b cycle words
+        unfolding lowest cycle_fits number_of
+        admit_signals fits e f = refused_as InvalidCycle (sym (at_cycle ∙ rw (sym e ∙ f)))
 
         module _ (fits : Bool) (small : fits ≡ ltb cycle (2 ^ h.signals)) (within : fits ≡ true) where
-          pub admit_full : most_cycles ≤ b.taken → Admission.Refused 22 ≡ admission_of b cycle words
-          unfolding lowest cycle_fits
-          admit_full l = refused_as 22 (sym (at_cycle ∙ rw (sym small ∙ within, le-ltb b.taken most_cycles l))) refl
+          pub admit_full : most_cycles ≤ b.taken → Err BoardFull ≡ admission_of b cycle words
+          unfolding lowest cycle_fits number_of
+          admit_full l = refused_as BoardFull (sym (at_cycle ∙ rw (sym small ∙ within, le-ltb b.taken most_cycles l)))
 
-          pub admitted : b.taken < most_cycles → Admission.Admitted h.signals ≡ admission_of b cycle words
-          unfolding lowest cycle_fits admission_of pick
+          pub admitted : b.taken < most_cycles → Ok h.signals ≡ admission_of b cycle words
+          unfolding lowest cycle_fits admission_of
           admitted l =
               let none : feed_refusal b cycle words ≡ 0 = at_cycle ∙ rw (sym small ∙ within, lt-ltb b.taken most_cycles l) in
-              rw none (ap Admission.Admitted (sym signals_are))
+              ap Ok (sym signals_are) ∙ answered_value (feed_refusal b cycle words) (signals_on b) none
 
 -- ---- what an admission says
 module _ (b : Board) (cycle : ℕ) (words : List ℕ) where
-  refused≢admitted : (n s : ℕ) → Admission.Refused n ≡ Admission.Admitted s → ⊥
-  refused≢admitted n s e = let z : ◌≡◌ {A = ℕ} 0 1 = cc in omega arith
+  pub feed_most : feed_refusal b cycle words ≤ last_number
+  unfolding feed_refusal board_refusal words_refusal cycle_rules sheet_refusal sheet_rules
+  feed_most =
+      or_small _ _
+      (or_small _ _ (lowest_small 1 (sheet_rules (sheet_on b)) (omega arith) (omega arith)) (lowest_small 13 (held_right (signals_on b) b.taken b.cycles ∷ []) (omega arith) (omega arith)))
+      (or_small _ _ (lowest_small 15 (leb least_words (length words) ∷ []) (omega arith) (omega arith))
+      (lowest_small 21 (cycle_rules b cycle) (omega arith) (omega arith)))
 
-  pub when_admitted : (s : ℕ) → admission_of b cycle words ≡ Admission.Admitted s → (feed_refusal b cycle words ≡ 0) × (s ≡ signals_on b)
-  unfolding admission_of pick
-  when_admitted s e = go (eqb (feed_refusal b cycle words) 0) refl e
-    where
-      go : (t : Bool) → eqb (feed_refusal b cycle words) 0 ≡ t → pick t (Admission.Admitted (signals_on b)) (Admission.Refused (feed_refusal b cycle words)) ≡ Admission.Admitted s
-          → (feed_refusal b cycle words ≡ 0) × (s ≡ signals_on b)
-      go true p q = (eqb-true (feed_refusal b cycle words) 0 p, (cc))
-      go false p q = absurd (refused≢admitted (feed_refusal b cycle words) s q)
+  pub when_admitted : (s : ℕ) → admission_of b cycle words ≡ Ok s → (feed_refusal b cycle words ≡ 0) × (s ≡ signals_on b)
+  unfolding admission_of
+  when_admitted s e = let z = of_value (feed_refusal b cycle words) (signals_on b) s e in (z.0, sym z.1)
 
-  pub when_refused : (n : ℕ) → admission_of b cycle words ≡ Admission.Refused n → (eqb (feed_refusal b cycle words) 0 ≡ false) × (n ≡ feed_refusal b cycle words)
-  unfolding admission_of pick
-  when_refused n e = go (eqb (feed_refusal b cycle words) 0) refl e
-    where
-      go : (t : Bool) → eqb (feed_refusal b cycle words) 0 ≡ t → pick t (Admission.Admitted (signals_on b)) (Admission.Refused (feed_refusal b cycle words)) ≡ Admission.Refused n
-          → (eqb (feed_refusal b cycle words) 0 ≡ false) × (n ≡ feed_refusal b cycle words)
-      go true p q = absurd (refused≢admitted n (signals_on b) (sym q))
-      go false p q = (p, (cc))
+  pub when_refused : (e : Refusal) → admission_of b cycle words ≡ Err e → number_of e ≡ feed_refusal b cycle words
+  unfolding admission_of
+  when_refused e is = of_refusal (feed_refusal b cycle words) (signals_on b) e feed_most is

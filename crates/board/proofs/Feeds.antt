@@ -16,16 +16,18 @@ use Rattle.stored.specs.Tree.{pick}
 use Rattle.traces.specs.Trace.{trace_refusal}
 use Rattle.traces.specs.Written.{trace_bytes}
 use Rattle.traces.proofs.Written.{trace_accepted, trace_cycles}
-use Rattle.checker.specs.declared.check.Answer.{Answer}
-use Rattle.checker.specs.declared.check.Answer.TheVariants.{Refused, Checked}
+use Rattle.std.specs.Prelude.{Option, Some, Result, Ok, Err}
+use Rattle.std.specs.Result.{result_ok}
+use Rattle.stored.specs.declared.refusal.Refusal.{Refusal}
+use Rattle.stored.specs.Refusal.{number_of, refusal_numbered, answered}
+use Rattle.stored.proofs.Refusals.{refusal_applies, numbered_number}
+use Rattle.checker.specs.declared.check.Verdict.{Verdict}
 use Rattle.checker.specs.Table.{words_refusal, words_after}
 use Rattle.checker.specs.Check.{told_whole, check_refusal, check_answer}
 use Rattle.checker.proofs.Refusals.{or_second}
 use Rattle.lines.specs.Input.{sheet_of}
-use Rattle.board.specs.declared.Shown.{Shown}
-use Rattle.board.specs.declared.Shown.TheVariants.{Given}
 use Rattle.board.specs.declared.Board.{Board}
-use Rattle.board.specs.Board.{Sized, sheet_on, signals_on, cycles_on, board_refusal, cycle_rules, feed_refusal, check_on, feed_answer, shown_of, with_cycle, next_board}
+use Rattle.board.specs.Board.{Sized, sheet_on, signals_on, cycles_on, board_refusal, cycle_rules, feed_refusal, check_on, feed_answer, with_cycle, next_board}
 use Rattle.board.specs.Feeds.{Feed, board_after, kept, taken_from, lent, words_left, verdict_on, Shows, Told}
 use Rattle.board.proofs.Admission.{Takes, takes}
 
@@ -59,8 +61,8 @@ module _ (s : List ℕ) (ws words : List ℕ) (accepted : sheet_refusal s ≡ 0)
       ∙ or_second (trace_refusal (header_of s).signals (trace_bytes (header_of s).signals ws)) _ (trace_accepted (header_of s).signals ws some few small)
       ∙ enough
 
-  pub check_gives : check_answer s (trace_bytes (header_of s).signals ws) words ≡ Checked (told_whole (verdict (clauses_of s) ws))
-  unfolding check_answer pick
+  pub check_gives : check_answer s (trace_bytes (header_of s).signals ws) words ≡ Ok (told_whole (verdict (clauses_of s) ws))
+  unfolding check_answer answered pick
   check_gives = rw (check_passes, trace_cycles (header_of s).signals ws)
 
 -- a board that takes a cycle
@@ -94,7 +96,7 @@ module _ (b : Board) (cycle : ℕ) (words : List ℕ) (none : feed_refusal b cyc
   passes more enough =
       check_passes (sheet_on b) all more taking.sheet_accepted (omega (arith, all_long)) (omega (arith, all_long, held_few, taking.room)) all_small enough
 
-  gives : (more : List ℕ) → words_refusal more ≡ 0 → check_on b all more ≡ Checked (told_whole (verdict (clauses_of (sheet_on b)) all))
+  gives : (more : List ℕ) → words_refusal more ≡ 0 → check_on b all more ≡ Ok (told_whole (verdict (clauses_of (sheet_on b)) all))
   unfolding check_on signals_on
   gives more enough =
       check_gives (sheet_on b) all more taking.sheet_accepted (omega (arith, all_long)) (omega (arith, all_long, held_few, taking.room)) all_small enough
@@ -104,7 +106,7 @@ module _ (b : Board) (cycle : ℕ) (words : List ℕ) (none : feed_refusal b cyc
   answers = rw none
 
   -- a feed that is not refused gives a verdict
-  pub answers_checked : feed_answer b cycle words ≡ Checked (told_whole (verdict (clauses_of (sheet_on b)) all))
+  pub answers_checked : feed_answer b cycle words ≡ Ok (told_whole (verdict (clauses_of (sheet_on b)) all))
   answers_checked = answers ∙ gives words taking.words_enough
 
   pub next_is : next_board b cycle words ≡ with_cycle b cycle (feed_answer b cycle words)
@@ -139,7 +141,7 @@ module _ (b : Board) (cycle : ℕ) (words : List ℕ) (none : feed_refusal b cyc
 
     -- the next board shows its verdict
     next_shows : Shows (next_board b cycle words)
-    unfolding with_cycle check_on signals_on sheet_on verdict_on shown_of
+    unfolding with_cycle check_on signals_on sheet_on verdict_on
     next_shows =
         let r = next_board b cycle words in
         let same : verdict_on r ≡ told_whole (verdict (clauses_of (sheet_on b)) (all)) =
@@ -149,16 +151,16 @@ module _ (b : Board) (cycle : ℕ) (words : List ℕ) (none : feed_refusal b cyc
           checked = λ more enough.
               ap₂ (λ (bytes ws : List ℕ). check_answer (sheet_of bytes) (trace_bytes (header_of (sheet_of bytes)).signals ws) more) next_sheet next_cycles
               ∙ gives more enough
-              ∙ ap Checked (sym same);
+              ∙ ap Ok (sym same);
           given =
               ap (λ (x : Board). x.verdict) next_is
-              ∙ ap shown_of (answers_checked)
-              ∙ ap Given (sym same);
+              ∙ ap result_ok answers_checked
+              ∙ ap Some (sym same);
         }
 
     -- what `take` hands back
-    pub took : (answer : Answer) (shown : Shown) (s : ℕ) (sheet ws after : List ℕ) → s ≡ signals_on b → sheet ≡ sheet_on b → ws ≡ all
-        → answer ≡ check_answer sheet (trace_bytes s ws) words → after ≡ words_after (check_refusal sheet (trace_bytes s ws) words) words → shown ≡ shown_of answer
+    pub took : (answer : Result Verdict Refusal) (shown : Option Verdict) (s : ℕ) (sheet ws after : List ℕ) → s ≡ signals_on b → sheet ≡ sheet_on b → ws ≡ all
+        → answer ≡ check_answer sheet (trace_bytes s ws) words → after ≡ words_after (check_refusal sheet (trace_bytes s ws) words) words → shown ≡ result_ok answer
         → (◌≡◌ {A = Board} (record { sheet = b.sheet; cycles = set b.cycles b.taken cycle; taken = b.taken + 1; verdict = shown }) (next_board b cycle words))
         × ((answer ≡ feed_answer b cycle words) × (after ≡ words_after 0 words))
     unfolding with_cycle check_on
@@ -175,11 +177,13 @@ module _ (b : Board) (cycle : ℕ) (words : List ℕ) (refused : eqb (feed_refus
   unfolding next_board pick
   next_same = rw refused
 
-  -- what `feed` hands back
-  pub fed_refused : (number : ℕ) → number ≡ feed_refusal b cycle words
-      → (b ≡ next_board b cycle words) × ((Refused number ≡ feed_answer b cycle words) × (words ≡ words_after (feed_refusal b cycle words) words))
-  unfolding feed_answer words_after pick
-  fed_refused number e = (sym next_same, (rw refused (ap Refused e), rw refused))
+-- what `feed` hands back where it refuses
+pub fed_refused : (b : Board) (cycle : ℕ) (words : List ℕ) (e : Refusal) → number_of e ≡ feed_refusal b cycle words
+    → (b ≡ next_board b cycle words) × ((Err e ≡ feed_answer b cycle words) × (words ≡ words_after (feed_refusal b cycle words) words))
+unfolding feed_answer words_after pick
+fed_refused b cycle words e is =
+    let refused = refusal_applies e is in
+    (sym (next_same b cycle words refused), (rw refused (ap Err (sym (numbered_number e) ∙ ap refusal_numbered is)), rw refused))
 
 -- a feed's result is the same over as many words
 module _ (b : Board) (cycle : ℕ) (words more : List ℕ) (same : length words ≡ length more) where
@@ -192,15 +196,15 @@ module _ (b : Board) (cycle : ℕ) (words more : List ℕ) (same : length words 
   refusal_same = rw words_same
 
   pub next_over_lem : next_board b cycle words ≡ next_board b cycle more
-  unfolding next_board feed_answer check_on check_answer check_refusal
+  unfolding next_board feed_answer check_on check_answer check_refusal answered
   next_over_lem = rw (refusal_same, words_same)
 
   pub answer_over : feed_answer b cycle words ≡ feed_answer b cycle more
-  unfolding feed_answer check_on check_answer check_refusal
+  unfolding feed_answer check_on check_answer check_refusal answered
   answer_over = rw (refusal_same, words_same)
 
 -- the verdict on a board is never looked at
-module _ (b : Board) (shown : Shown) (cycle : ℕ) (words : List ℕ) where
+module _ (b : Board) (shown : Option Verdict) (cycle : ℕ) (words : List ℕ) where
   abbrev pub showing : Board
   showing = record { sheet = b.sheet; cycles = b.cycles; taken = b.taken; verdict = shown }
 

@@ -15,7 +15,7 @@ use Rattle.stored.specs.Sheet.{clauses_of}
 use Rattle.checker.specs.Check as check
 use Rattle.checker.specs.Check.{told_whole}
 use Rattle.lines.specs.Input.{sheet_of}
-use Rattle.board.specs.declared.Shown.TheVariants.{Given}
+use Rattle.std.specs.Prelude.{Some}
 use Rattle.board.specs.declared.Board.{Board}
 use Rattle.board.specs.Board.{Sized, sheet_on, cycles_on, next_board}
 use Rattle.board.specs.Feeds.{Feed, board_after, taken_from, verdict_on, Shows, Told}
@@ -33,7 +33,7 @@ unfolding meant_whole told_whole
 meant_whole_lem v = ap (λ (f : semantics.Finding). record { finding = f; advice = v.advice }) (meant_told v.finding)
 
 -- where both boards show a verdict
-shown_lasting : (b r : Board) (v w : semantics.Verdict) → b.verdict ≡ Given (told_whole v) → r.verdict ≡ Given (told_whole w) → Lasting v w
+shown_lasting : (b r : Board) (v w : semantics.Verdict) → b.verdict ≡ Some (told_whole v) → r.verdict ≡ Some (told_whole w) → Lasting v w
     → LastingShown b.verdict r.verdict
 shown_lasting b r v w eb er lasts = rw (eb, er, meant_whole_lem v, meant_whole_lem w) lasts
 
@@ -57,7 +57,7 @@ module _ (b : Board) (feeds : List Feed) (r : Board) (tells : Told b feeds r) wh
       record {
         clauses = λ c h. subst (λ (ws : List ℕ). fails c ws ≡ true) (sym tells.cycles) (fails_longer (cycles_on b) (taken_from b feeds) c h);
         verdict = λ shows.
-            shown_lasting b r _ _ shows.given ((still_shows shows).given ∙ ap Given verdict_then)
+            shown_lasting b r _ _ shows.given ((still_shows shows).given ∙ ap Some verdict_then)
             (verdict_longer (cycles_on b) (taken_from b feeds) (clauses_of (sheet_on b)));
       }
 

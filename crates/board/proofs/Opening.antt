@@ -1,7 +1,7 @@
--- A board that is opened: the number of a refused sheet, and the sheet of a new board.
+-- A board that is opened, and the sheet of a new board.
 use Prim.Native.Nat.{ℕ, ◌+◌, ◌*◌, ◌≤◌, min}
 use mathlib.Core.List.{List, []}
-use mathlib.Core.Path.{◌≡◌, refl, sym, ◌∙◌, ap}
+use mathlib.Core.Path.{◌≡◌, refl, ◌∙◌, ap}
 use native.Mathlib.Omega.{arith}
 use borrow.Author.Tests.{eqb-true}
 use lib.Dec.{leb}
@@ -9,18 +9,17 @@ use lib.ListN.{length, get_or, take, replicate, length-replicate}
 use lib.Seq.{sets, length-sets}
 use Rattle.semantics.proofs.Tests.{and_left, and_right}
 use Rattle.stored.specs.declared.Header.{Header}
-use Rattle.stored.specs.declared.SheetAnswer.{SheetAnswer}
-use Rattle.stored.specs.declared.SheetAnswer.TheVariants.{Accepted}
+use Rattle.std.specs.Prelude.{Ok, Err}
+use Rattle.stored.specs.declared.refusal.Refusal.{Refusal}
+use Rattle.stored.proofs.Refusals.{answered_value, answered_refusal}
 use Rattle.stored.specs.Bytes.{word, framed_from}
 use Rattle.stored.specs.Layout.{most_sheet, most_cycles, following}
-use Rattle.stored.specs.Sheet.{framed, sheet_rules, sheet_refusal, sheet_answer, sheet_number}
-use Rattle.stored.specs.Tree.{pick}
+use Rattle.stored.specs.Sheet.{framed, sheet_rules, sheet_refusal, sheet_answer}
 use Rattle.stored.proofs.Rules.{lowest_kept}
 use Rattle.stored.proofs.Written.{sets_front, get_or_put}
-use Rattle.stored.proofs.Accepted.{opened, answer_accepted, answer_refused, sheet_number_lem}
+use Rattle.stored.proofs.Accepted.{opened, answer_accepted, answer_refused}
 use Rattle.lines.specs.Input.{split_at, sheet_of}
 use Rattle.board.specs.Board.{Sized, sheet_on, cycles_on, new_board, open_answer}
-use Rattle.board.specs.declared.Opened as board
 
 -- an accepted sheet is no longer than the longest
 pub sheet_short : (s : List ℕ) → sheet_refusal s ≡ 0 → length s ≤ most_sheet
@@ -31,21 +30,13 @@ sheet_short s e =
     omega (arith, o.long)
 
 -- what open answers
-pub open_refused : (s : List ℕ) (answer : SheetAnswer) (number k : ℕ) → answer ≡ sheet_answer s → answer ≡ SheetAnswer.Refused k → number ≡ sheet_number answer
-    → ◌≡◌ {A = board.Opened} (record { board = new_board []; refused = number }) (open_answer s)
-unfolding open_answer pick
-open_refused s answer number k read said e =
-    let n : number ≡ sheet_refusal s = e ∙ ap sheet_number read ∙ sheet_number_lem s in
-    let z = (answer_refused s k (sym read ∙ said)).0 in
-    rw (z, n)
-
-pub open_accepted : (s : List ℕ) (h : Header) → sheet_answer s ≡ Accepted h → ◌≡◌ {A = board.Opened} (record { board = new_board s; refused = 0 }) (open_answer s)
-unfolding open_answer pick
-open_accepted s h e = rw (answer_accepted s h e).0
-
-pub opened_number : (s : List ℕ) → (open_answer s).refused ≡ sheet_refusal s
+pub open_refused : (s : List ℕ) (e : Refusal) → sheet_answer s ≡ Err e → Err e ≡ open_answer s
 unfolding open_answer
-opened_number s = refl
+open_refused s e is = answered_refusal (sheet_refusal s) (new_board s) e (answer_refused s e is)
+
+pub open_accepted : (s : List ℕ) (h : Header) → sheet_answer s ≡ Ok h → Ok (new_board s) ≡ open_answer s
+unfolding open_answer
+open_accepted s h e = answered_value (sheet_refusal s) (new_board s) (answer_accepted s h e).0
 
 -- ---- a new board
 pub new_sized : (s : List ℕ) → Sized (new_board s)

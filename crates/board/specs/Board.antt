@@ -1,21 +1,19 @@
 -- Request 6, "The open offer on the wall": a board, what opens it, and what a feed does. "Board" and "feed" are the request's words.
-use Rattle.std.specs.Prelude.{ℕ, suc, ◌^◌, Bool, ◌&&◌, List, [], ◌∷◌, ◌++◌, ◌≡◌, leb, ltb, eqb, length, get_or, set, take, replicate}
+use Rattle.std.specs.Prelude.{ℕ, suc, ◌^◌, Bool, ◌&&◌, List, [], ◌∷◌, ◌++◌, ◌≡◌, leb, ltb, eqb, length, get_or, set, take, replicate, Option, None, Result, Err}
 use Rattle.std.proofs.lemmas.List.Edits.{sets}
+use Rattle.std.specs.Result.{result_ok}
 use Rattle.stored.specs.Bytes.{every_below, lowest}
 use Rattle.stored.specs.Layout.{most_sheet, most_cycles}
+use Rattle.stored.specs.declared.refusal.Refusal.{Refusal}
+use Rattle.stored.specs.Refusal.{refusal_numbered, answered}
 use Rattle.stored.specs.Sheet.{header_of, sheet_refusal}
 use Rattle.stored.specs.Tree.{pick}
 use Rattle.traces.specs.Written.{trace_bytes}
-use Rattle.checker.specs.declared.check.Answer.{Answer}
-use Rattle.checker.specs.declared.check.Answer.TheVariants.{Refused, Checked}
+use Rattle.checker.specs.declared.check.Verdict.{Verdict}
 use Rattle.checker.specs.Table.{or_else, words_refusal}
 use Rattle.checker.specs.Check.{check_answer}
 use Rattle.lines.specs.Input.{sheet_of}
-use Rattle.board.specs.declared.Shown.{Shown}
-use Rattle.board.specs.declared.Shown.TheVariants.{Nothing, Given}
 use Rattle.board.specs.declared.Board.{Board}
-use Rattle.board.specs.declared.Opened.{Opened}
-use Rattle.board.specs.declared.feed.Admission.{Admission}
 
 -- ---- what a board holds
 -- its arrays are as long as its type says
@@ -36,11 +34,11 @@ cycles_on b = take b.taken b.cycles
 
 -- ---- a new board
 unfoldable pub new_board : List ℕ → Board
-new_board s = record { sheet = sets (replicate most_sheet 0) 0 s; cycles = replicate most_cycles 0; taken = 0; verdict = Nothing }
+new_board s = record { sheet = sets (replicate most_sheet 0) 0 s; cycles = replicate most_cycles 0; taken = 0; verdict = None }
 
--- refused by the lowest number from 1 to 9 that applies, beside a board without a sheet; or, with 0, the sheet's new board
-unfoldable pub open_answer : List ℕ → Opened
-open_answer s = record { board = new_board (pick (eqb (sheet_refusal s) 0) s []); refused = sheet_refusal s }
+-- the sheet's new board, or the refusal with the lowest number from 1 to 9 that applies
+unfoldable pub open_answer : List ℕ → Result Board Refusal
+open_answer s = answered (sheet_refusal s) (new_board s)
 
 -- ---- which cycles a board takes
 -- no bit from s up is set
@@ -66,27 +64,22 @@ cycle_rules b cycle = cycle_fits (signals_on b) cycle ∷ ltb b.taken most_cycle
 unfoldable pub feed_refusal : Board → ℕ → List ℕ → ℕ
 feed_refusal b cycle words = or_else (board_refusal b) (or_else (words_refusal words) (lowest 21 (cycle_rules b cycle)))
 
--- what the cases of an admission say: Refused has the refusal's number, Admitted how many signals the sheet has
-unfoldable pub admission_of : Board → ℕ → List ℕ → Admission
-admission_of b cycle words = pick (eqb (feed_refusal b cycle words) 0) (Admission.Admitted (signals_on b)) (Admission.Refused (feed_refusal b cycle words))
+-- how many signals the sheet has, where the cycle is taken, or the refusal with that number
+unfoldable pub admission_of : Board → ℕ → List ℕ → Result ℕ Refusal
+admission_of b cycle words = answered (feed_refusal b cycle words) (signals_on b)
 
 -- ---- what a feed answers
 -- the check's answer on a board's sheet and the stored trace of cycles
-unfoldable pub check_on : Board → List ℕ → List ℕ → Answer
+unfoldable pub check_on : Board → List ℕ → List ℕ → Result Verdict Refusal
 check_on b cycles words = check_answer (sheet_on b) (trace_bytes (signals_on b) cycles) words
 
--- refused by that number, or the check's answer on the cycles taken before and this one
-unfoldable pub feed_answer : Board → ℕ → List ℕ → Answer
-feed_answer b cycle words = pick (eqb (feed_refusal b cycle words) 0) (check_on b (cycles_on b ++ (cycle ∷ [])) words) (Refused (feed_refusal b cycle words))
-
--- the verdict of an answer
-unfoldable pub shown_of : Answer → Shown
-shown_of (Refused number) = Nothing
-shown_of (Checked v) = Given v
+-- the refusal with that number, or the check's answer on the cycles taken before and this one
+unfoldable pub feed_answer : Board → ℕ → List ℕ → Result Verdict Refusal
+feed_answer b cycle words = pick (eqb (feed_refusal b cycle words) 0) (check_on b (cycles_on b ++ (cycle ∷ [])) words) (Err (refusal_numbered (feed_refusal b cycle words)))
 
 -- the board with one cycle more, and the verdict of an answer
-unfoldable pub with_cycle : Board → ℕ → Answer → Board
-with_cycle b cycle answer = record { sheet = b.sheet; cycles = set b.cycles b.taken cycle; taken = suc b.taken; verdict = shown_of answer }
+unfoldable pub with_cycle : Board → ℕ → Result Verdict Refusal → Board
+with_cycle b cycle answer = record { sheet = b.sheet; cycles = set b.cycles b.taken cycle; taken = suc b.taken; verdict = result_ok answer }
 
 -- the board that a feed hands back: as it was where it is refused
 unfoldable pub next_board : Board → ℕ → List ℕ → Board

@@ -1,16 +1,14 @@
 -- Request 6, of a list of feeds: which cycles are taken, and what the board shows after them.
-use Rattle.std.specs.Prelude.{ℕ, ◌<◌, List, [], ◌∷◌, ◌++◌, ◌≡◌, eqb, length, replicate}
+use Rattle.std.specs.Prelude.{ℕ, ◌<◌, List, [], ◌∷◌, ◌++◌, ◌≡◌, eqb, length, replicate, None, Some, Ok}
 use Rattle.semantics.specs.Verdict.{verdict}
-use Rattle.stored.specs.Sheet.{header_of, clauses_of}
+use Rattle.stored.specs.Sheet.{header_of, clauses_of, sheet_refusal}
 use Rattle.stored.specs.Tree.{pick}
 use Rattle.traces.specs.Written.{trace_bytes}
-use Rattle.checker.specs.declared.check.Answer.TheVariants.{Checked}
 use Rattle.checker.specs.declared.check.Verdict.{Verdict}
 use Rattle.checker.specs.Table.{words_refusal}
 use Rattle.checker.specs.Check.{told_whole, check_answer}
-use Rattle.board.specs.declared.Shown.TheVariants.{Nothing, Given}
 use Rattle.board.specs.declared.Board.{Board}
-use Rattle.board.specs.Board.{sheet_on, cycles_on, feed_refusal, check_on, next_board}
+use Rattle.board.specs.Board.{sheet_on, cycles_on, new_board, feed_refusal, check_on, next_board}
 
 -- one feed: its cycle, and the words lent to it
 pub record Feed : Type 0 where
@@ -31,6 +29,10 @@ unfoldable pub taken_from : Board → List Feed → List ℕ
 taken_from b [] = []
 taken_from b (f ∷ feeds) = kept (feed_refusal b f.cycle f.words) f.cycle (taken_from (next_board b f.cycle f.words) feeds)
 
+-- the cycles taken of feeds to the new board of a sheet: none where the sheet is refused, since it has no board
+unfoldable pub taken_watching : List ℕ → List Feed → List ℕ
+taken_watching s feeds = pick (eqb (sheet_refusal s) 0) (taken_from (new_board s) feeds) []
+
 -- the feeds of cycles, the same words lent to each
 unfoldable pub lent : List ℕ → List ℕ → List Feed
 lent words [] = []
@@ -46,8 +48,8 @@ verdict_on b = told_whole (verdict (clauses_of (sheet_on b)) (cycles_on b))
 
 -- A board shows its verdict: it is the check's answer on the stored trace of its cycles, whatever words are lent to that check.
 pub record Shows (b : Board) : Type 0 where
-  pub checked : (words : List ℕ) → words_refusal words ≡ 0 → check_on b (cycles_on b) words ≡ Checked (verdict_on b)
-  pub given : b.verdict ≡ Given (verdict_on b)
+  pub checked : (words : List ℕ) → words_refusal words ≡ 0 → check_on b (cycles_on b) words ≡ Ok (verdict_on b)
+  pub given : b.verdict ≡ Some (verdict_on b)
 
 -- What board r tells after feeds of board b, whichever board that is. The cycles taken stand after those of b. Where none was taken r is b,
 -- so that a new board still has no verdict; where one was, r shows its verdict.
@@ -62,7 +64,7 @@ pub record Told (b : Board) (feeds : List Feed) (r : Board) : Type 0 where
 -- verdict; else its verdict is the check's answer on the stored trace of the cycles taken, whatever words are lent to that check.
 pub record Watched (s taken : List ℕ) (r : Board) : Type 0 where
   pub cycles : cycles_on r ≡ taken
-  pub none : taken ≡ [] → r.verdict ≡ Nothing
+  pub none : taken ≡ [] → r.verdict ≡ None
   pub checked : 0 < length taken → (words : List ℕ) → words_refusal words ≡ 0
-      → check_answer s (trace_bytes (header_of s).signals taken) words ≡ Checked (told_whole (verdict (clauses_of s) taken))
-  pub given : 0 < length taken → r.verdict ≡ Given (told_whole (verdict (clauses_of s) taken))
+      → check_answer s (trace_bytes (header_of s).signals taken) words ≡ Ok (told_whole (verdict (clauses_of s) taken))
+  pub given : 0 < length taken → r.verdict ≡ Some (told_whole (verdict (clauses_of s) taken))

@@ -1,13 +1,11 @@
 -- Request 7, of a board: what a board says of the board after feeds of it.
-use Rattle.std.specs.Prelude.{true, ◌≡◌}
+use Rattle.std.specs.Prelude.{true, ◌≡◌, Option, None, Some}
 use Rattle.semantics.specs.Clause.{Clause, fails}
 use Rattle.semantics.specs.Verdict as semantics
 use Rattle.semantics.specs.Lasting.{Lasting}
 use Rattle.checker.specs.declared.check.Finding.{Finding}
 use Rattle.checker.specs.declared.check.Finding.TheVariants.{Excused, Broken, Holds}
 use Rattle.checker.specs.declared.check.Verdict.{Verdict}
-use Rattle.board.specs.declared.Shown.{Shown}
-use Rattle.board.specs.declared.Shown.TheVariants.{Nothing, Given}
 use Rattle.board.specs.declared.Board.{Board}
 use Rattle.board.specs.Board.{cycles_on}
 use Rattle.board.specs.Feeds.{Shows}
@@ -22,10 +20,10 @@ unfoldable pub meant_whole : Verdict → semantics.Verdict
 meant_whole v = record { finding = meant v.finding; advice = v.advice }
 
 -- the verdict that is shown lasts: it is not taken down, and what comes in its place is one that may
-abbrev pub LastingShown : Shown → Shown → Type 0
-LastingShown Nothing later = Unit
-LastingShown (Given v) Nothing = ⊥
-LastingShown (Given v) (Given w) = Lasting (meant_whole v) (meant_whole w)
+abbrev pub LastingShown : Option Verdict → Option Verdict → Type 0
+LastingShown None later = Unit
+LastingShown (Some v) None = ⊥
+LastingShown (Some v) (Some w) = Lasting (meant_whole v) (meant_whole w)
 
 -- A clause that is false of the cycles on board b is false of those on board r, whichever clause that is. Where b shows the verdict on its
 -- cycles, as every board does that took one, that verdict lasts on r.

@@ -3,11 +3,11 @@ ghost use Rattle.std.specs.Prelude.{◌≡◌, ◌≤◌, length, replicate};
 ghost use Rattle.stored.specs.Layout.{most_sheet, most_cycles};
 ghost use Rattle.board.specs.Board.{new_board, open_answer};
 
-use crate::{Board, Opened, Shown};
+use crate::Board;
 use lines::lines::put_word;
-use stored::SheetAnswer;
 use stored::layout::{MOST_CYCLES, MOST_SHEET};
-use stored::sheet::{read_sheet, sheet_number};
+use stored::refusal::Refusal;
+use stored::sheet::read_sheet;
 
 fn no_sheet() -> [u8; MOST_SHEET]
     ensures { result ≡ replicate most_sheet 0 }
@@ -33,24 +33,16 @@ fn new_board(sheet: &[u8]) -> Board
         sheet: bytes,
         cycles,
         taken: 0,
-        verdict: Shown::Nothing,
+        verdict: None,
     }
 }
 
 impl Board {
-    // A board with no cycles and no verdict; or the lowest number from 1 to 9 that applies to the sheet.
-    pub fn open(sheet: &[u8]) -> Opened
+    // A board with no cycles and no verdict; or the refusal with the lowest number from 1 to 9 that applies to the sheet.
+    pub fn open(sheet: &[u8]) -> Result<Board, Refusal>
         ensures { result ≡ open_answer sheet.now }
     {
-        let answer = read_sheet(sheet);
-        let SheetAnswer::Accepted(_) = answer else {
-            let board = new_board(&sheet[0..0]);
-            return Opened {
-                board,
-                refused: sheet_number(answer),
-            };
-        };
-        let board = new_board(sheet);
-        Opened { board, refused: 0 }
+        read_sheet(sheet)?;
+        Ok(new_board(sheet))
     }
 }

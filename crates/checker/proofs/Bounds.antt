@@ -1,5 +1,5 @@
--- How small the numbers in an answer of check or table are.
-use Prim.Native.Nat.{ℕ, ◌+◌, ◌≤◌, ◌<◌}
+-- How small the numbers of a verdict are, and that a refusal's number is one of the numbers that there are.
+use Prim.Native.Nat.{ℕ, suc, ◌+◌, ◌≤◌, ◌<◌}
 use mathlib.Core.Bool.{Bool, true, false, cond}
 use mathlib.Core.List.{List, [], ◌∷◌}
 use mathlib.Core.Logic.{inl, inr}
@@ -24,29 +24,30 @@ use Rattle.stored.specs.Tree.{pick}
 use Rattle.stored.proofs.Rules.{length_in_order, lowest_law}
 use Rattle.stored.proofs.Accepted.{opened}
 use Rattle.traces.proofs.Accepted.{trace_opened, cycles_count}
-use Rattle.checker.specs.declared.check.Answer.TheVariants.{Refused, Checked}
-use Rattle.checker.specs.Table.{or_else, words_refusal, node_rules, node_refusal, table_refusal, table_answer, answer_for}
+use Rattle.std.specs.Prelude.{Ok, Err, IfOk}
+use Rattle.stored.specs.Refusal.{last_number, refusal_numbered, answered}
+use Rattle.checker.specs.Table.{or_else, words_refusal, node_rules, node_refusal, table_refusal}
 use Rattle.checker.specs.Check.{told, told_whole, check_refusal, check_answer}
-use Rattle.checker.specs.Small.{SmallFinding, SmallVerdict, Small}
+use Rattle.checker.specs.Small.{SmallFinding, SmallVerdict}
 
--- refusals are numbers below 100
-pub lowest_small : (k : ℕ) (rules : List Bool) → 0 < k → k + length rules ≤ 100 → lowest k rules < 100
+-- refusals are numbers up to the last
+pub lowest_small : (k : ℕ) (rules : List Bool) → 0 < k → k + length rules ≤ suc last_number → lowest k rules ≤ last_number
 lowest_small k rules p h =
     elim (lowest_law k rules p).range [
       | inl e ↦ omega arith
       | inr u ↦ (let most = u.1 in omega arith)
     ]
 
-pub or_small : (a b : ℕ) → a < 100 → b < 100 → or_else a b < 100
+pub or_small : (a b : ℕ) → a ≤ last_number → b ≤ last_number → or_else a b ≤ last_number
 unfolding or_else
 or_small a b p q = go (eqb a 0)
   where
-    go : (t : Bool) → cond t b a < 100
+    go : (t : Bool) → cond t b a ≤ last_number
     go true = q
     go false = p
 
-pub table_small : (s t : List ℕ) (node p0 p1 p2 : ℕ) (words : List ℕ) → (table_answer s t node p0 p1 p2 words).refused < 100
-unfolding table_answer answer_for table_refusal words_refusal node_refusal node_rules sheet_refusal sheet_rules trace_refusal trace_rules
+pub table_small : (s t : List ℕ) (node p0 p1 p2 : ℕ) (words : List ℕ) → table_refusal s t node p0 p1 p2 words ≤ last_number
+unfolding table_refusal words_refusal node_refusal node_rules sheet_refusal sheet_rules trace_refusal trace_rules
 table_small s t node p0 p1 p2 words =
     or_small _ _ (lowest_small 1 (sheet_rules s) (omega arith) (omega arith))
     (or_small _ _ (lowest_small 10 (trace_rules (header_of s).signals t) (omega arith) (omega arith))
@@ -83,9 +84,9 @@ or_zero a b e = go (eqb a 0) refl e
     go true s e = (eqb-true a 0 s, e)
     go false s e = absurd (eqb-false a 0 s e)
 
-refusal_small : (s t words : List ℕ) → check_refusal s t words < 100
+pub check_small : (s t words : List ℕ) → check_refusal s t words ≤ last_number
 unfolding check_refusal words_refusal sheet_refusal sheet_rules trace_refusal trace_rules
-refusal_small s t words =
+check_small s t words =
     or_small _ _ (lowest_small 1 (sheet_rules s) (omega arith) (omega arith))
     (or_small _ _ (lowest_small 10 (trace_rules (header_of s).signals t) (omega arith) (omega arith))
     (lowest_small 15 (leb least_words (length words) ∷ []) (omega arith) (omega arith)))
@@ -101,11 +102,11 @@ accepted_small s t words e =
     let most = (trace_opened (header_of s).signals t trace.0).few_cycles in
     verdict_small (clauses_of s) (cycles_of t) (omega arith) (omega arith)
 
-pub answer_small : (s t words : List ℕ) → Small (check_answer s t words)
-unfolding check_answer pick
-answer_small s t words = go (eqb (check_refusal s t words) 0) (λ e. accepted_small s t words (eqb-true (check_refusal s t words) 0 e)) (refusal_small s t words)
+pub verdict_fits : (s t words : List ℕ) → IfOk (check_answer s t words) SmallVerdict
+unfolding check_answer answered pick
+verdict_fits s t words = go (eqb (check_refusal s t words) 0) (λ e. accepted_small s t words (eqb-true (check_refusal s t words) 0 e))
   where
-    go : (b : Bool) → (b ≡ true → SmallVerdict (told_whole (verdict (clauses_of s) (cycles_of t)))) → check_refusal s t words < 100
-        → Small (pick b (Checked (told_whole (verdict (clauses_of s) (cycles_of t)))) (Refused (check_refusal s t words)))
-    go true p q = p refl
-    go false p q = q
+    go : (b : Bool) → (b ≡ true → SmallVerdict (told_whole (verdict (clauses_of s) (cycles_of t))))
+        → IfOk (pick b (Ok (told_whole (verdict (clauses_of s) (cycles_of t)))) (Err (refusal_numbered (check_refusal s t words)))) SmallVerdict
+    go true p = p refl
+    go false p = tt

@@ -9,8 +9,7 @@ use lib.Dec.{ltb}
 use lib.ListN.{length}
 use Rattle.stored.specs.Layout.{least_words}
 use Rattle.stored.specs.declared.Header.{Header}
-use Rattle.stored.specs.declared.SheetAnswer.TheVariants.{Accepted}
-use Rattle.traces.specs.declared.TraceAnswer.TheVariants.{Cycles}
+use Rattle.std.specs.Prelude.{Ok}
 use Rattle.stored.specs.Bytes.{in_order}
 use Rattle.traces.specs.Columns.{columns_of, trace_of}
 use Rattle.stored.specs.Node.{requirement_sorts, sort_of, node_at, node_right, operands_right}
@@ -62,11 +61,11 @@ module _ (s t : List ℕ) (o : Opened s) (r : TraceOpened (header_of s).signals 
   told_opened = columns_tell (header_of s).signals (cycle_count t) t o.in_range.few_signals refl r
 
 -- the same of an accepted header and of how many cycles were counted
-module _ (s t : List ℕ) (h : Header) (n : ℕ) (accepted : sheet_answer s ≡ Accepted h) (cycled : trace_answer h.signals t ≡ Cycles n) where
+module _ (s t : List ℕ) (h : Header) (n : ℕ) (accepted : sheet_answer s ≡ Ok h) (cycled : trace_answer h.signals t ≡ Ok n) where
   same : header_of s ≡ h
   same = (answer_accepted s h accepted).1
 
-  pub cycled_as : trace_answer (header_of s).signals t ≡ Cycles n
+  pub cycled_as : trace_answer (header_of s).signals t ≡ Ok n
   cycled_as = ap (λ (g : Header). trace_answer g.signals t) same ∙ cycled
 
   many : cycle_count t ≡ n

@@ -1,4 +1,4 @@
--- The order of the table operation's refusals.
+-- The order of the refusals of check and table.
 use Prim.Native.Nat.{ℕ, zero, suc, ◌≤◌, ◌<◌}
 use mathlib.Core.Bool.{Bool, true, false, not, cond, ◌||◌}
 use mathlib.Core.List.{List, [], ◌∷◌}
@@ -12,12 +12,19 @@ use Rattle.semantics.proofs.Tests.{and_left, and_right}
 use Rattle.stored.specs.declared.Node.{Node}
 use Rattle.stored.specs.Bytes.{lowest}
 use Rattle.stored.specs.Node.{requirement_sorts, is_formula_node}
-use Rattle.stored.specs.Sheet.{header_of, nodes_of, sheet_refusal}
-use Rattle.traces.specs.Trace.{cycle_count, cycles_of, trace_refusal}
+use Rattle.stored.specs.Sheet.{header_of, sheet_refusal, sheet_answer}
+use Rattle.stored.specs.Refusal.{number_of, answered}
+use Rattle.stored.specs.declared.Header.{Header}
+use Rattle.stored.specs.declared.refusal.Refusal.{Refusal}
+use Rattle.stored.specs.declared.refusal.Refusal.TheVariants.{FewWords, NotAFormula, NameOffTrace}
+use Rattle.stored.proofs.Refusals.{refusal_applies, answered_value, answered_refusal}
+use Rattle.stored.proofs.Accepted.{answer_accepted, answer_refused}
+use Rattle.traces.specs.Trace.{trace_refusal, trace_answer}
+use Rattle.traces.proofs.Accepted.{cycles_accepted, cycles_refused}
+use Rattle.std.specs.Prelude.{Result, Ok, Err}
 use Rattle.stored.specs.Tree.{pick}
 use Rattle.tables.specs.Table.{standing, Inside}
-use Rattle.checker.specs.declared.table.TableAnswer.{TableAnswer}
-use Rattle.checker.specs.Table.{name_placed, names_placed, heeded, placement_of, table_of, node_rules, node_refusal, or_else, words_refusal, table_refusal, refused_with, answer_for, table_answer, words_after}
+use Rattle.checker.specs.Table.{name_placed, names_placed, heeded, node_rules, node_refusal, or_else, words_refusal, words_after}
 
 pub or_first : (a b : ℕ) → eqb a 0 ≡ false → or_else a b ≡ a
 unfolding or_else
@@ -28,30 +35,27 @@ unfolding or_else
 or_second a b e = rw (eq-eqb a 0 e)
 
 -- what is answered, and what the words hold, for a number
-pub record Answers (number : ℕ) (rows old : List ℕ) (answer : TableAnswer) (new : List ℕ) : Type 0 where
-  pub answered : answer ≡ answer_for number rows
+pub record Answers {A : Type 0} (number : ℕ) (value : A) (old : List ℕ) (answer : Result A Refusal) (new : List ℕ) : Type 0 where
+  pub given : answer ≡ answered number value
   pub left : new ≡ words_after number old
 
-pub answers_refused : (number r : ℕ) (rows words : List ℕ) → number ≡ r → eqb r 0 ≡ false → Answers r rows words (refused_with number) words
-unfolding answer_for refused_with words_after pick
-answers_refused number r rows words e f =
-    record { answered = rw (f, e); left = rw f }
+module _ {A : Type 0} (number : ℕ) (value : A) (words : List ℕ) where
+  pub answers_refused : (e : Refusal) → number_of e ≡ number → Answers number value words (Err e) words
+  unfolding words_after pick
+  answers_refused e is = record { given = answered_refusal number value e is; left = rw (refusal_applies e is) }
 
-pub answers_number : (number r : ℕ) (rows words : List ℕ) → number ≡ r → eqb number 0 ≡ false → Answers r rows words (refused_with number) words
-answers_number number r rows words e f = answers_refused number r rows words e (ap (λ (k : ℕ). eqb k 0) (sym e) ∙ f)
-
-pub answers_rows : (r : ℕ) (rows words : List ℕ) → r ≡ 0 → Answers r rows words (record { refused = 0; rows = rows }) (replicate (length words) 0)
-unfolding answer_for words_after pick
-answers_rows r rows words e = record { answered = rw e; left = rw e }
+  pub answers_value : number ≡ 0 → Answers number value words (Ok value) (replicate (length words) 0)
+  unfolding words_after pick
+  answers_value e = record { given = answered_value number value e; left = rw e }
 
 -- refusals 16 and 17
 module _ (x : ℕ → Node) (count n m node p0 p1 p2 : ℕ) where
-  pub node_16 : is_formula_node requirement_sorts x count node ≡ false → 16 ≡ node_refusal x count n m node p0 p1 p2
-  unfolding node_refusal node_rules lowest
+  pub node_16 : is_formula_node requirement_sorts x count node ≡ false → number_of NotAFormula ≡ node_refusal x count n m node p0 p1 p2
+  unfolding number_of node_refusal node_rules lowest
   node_16 e = rw e
 
-  pub node_17 : is_formula_node requirement_sorts x count node ≡ true → names_placed m n p0 p1 p2 ≡ false → 17 ≡ node_refusal x count n m node p0 p1 p2
-  unfolding node_refusal node_rules lowest
+  pub node_17 : is_formula_node requirement_sorts x count node ≡ true → names_placed m n p0 p1 p2 ≡ false → number_of NameOffTrace ≡ node_refusal x count n m node p0 p1 p2
+  unfolding number_of node_refusal node_rules lowest
   node_17 e f = rw (e, f)
 
   pub node_right_lem : is_formula_node requirement_sorts x count node ≡ true → names_placed m n p0 p1 p2 ≡ true → node_refusal x count n m node p0 p1 p2 ≡ 0
@@ -85,39 +89,47 @@ pub words_many : (words : List ℕ) → least_words ≤ length words → words_r
 unfolding words_refusal lowest
 words_many words l = rw (le-leb least_words (length words) l)
 
--- the whole order
-module _ (s t : List ℕ) (node p0 p1 p2 : ℕ) (words : List ℕ) where
-  -- the answer and the words of a refusal
-  abbrev pub Refuses : ℕ → Type 0
-  Refuses number = (refused_with number ≡ table_answer s t node p0 p1 p2 words) × (words ≡ words_after (table_refusal s t node p0 p1 p2 words) words)
+-- the sheet's number, the trace's, then the rest
+module _ (s t : List ℕ) (rest : ℕ) where
+  abbrev number : ℕ
+  number = or_else (sheet_refusal s) (or_else (trace_refusal (header_of s).signals t) rest)
 
-  by_number : (number r : ℕ) → table_refusal s t node p0 p1 p2 words ≡ r → number ≡ r → eqb r 0 ≡ false → Refuses number
-  unfolding table_answer
-  by_number number r a e f =
-      let back = sym a in
-      let z = answers_refused number (table_refusal s t node p0 p1 p2 words) (table_of (nodes_of s) (cycles_of t) node (placement_of (header_of s).names p0 p1 p2)) words (e ∙ back) (ap (λ (k : ℕ). eqb k 0) a ∙ f) in
-      (z.answered, z.left)
+  module _ (h : Header) (accepted : sheet_answer s ≡ Ok h) where
+    after_sheet : number ≡ or_else (trace_refusal (header_of s).signals t) rest
+    after_sheet = or_second (sheet_refusal s) _ (answer_accepted s h accepted).0
 
-  pub by_sheet : (number : ℕ) → number ≡ sheet_refusal s → eqb (sheet_refusal s) 0 ≡ false → Refuses number
-  unfolding table_refusal
-  by_sheet number e f = by_number number (sheet_refusal s) (or_first (sheet_refusal s) _ f) e f
+    same_header : trace_answer (header_of s).signals t ≡ trace_answer h.signals t
+    same_header = ap (λ (g : Header). trace_answer g.signals t) (answer_accepted s h accepted).1
 
-  pub by_trace : (number : ℕ) → sheet_refusal s ≡ 0 → number ≡ trace_refusal (header_of s).signals t → eqb (trace_refusal (header_of s).signals t) 0 ≡ false → Refuses number
-  unfolding table_refusal
-  by_trace number a e f =
-      by_number number (trace_refusal (header_of s).signals t) (or_second (sheet_refusal s) _ a ∙ or_first (trace_refusal (header_of s).signals t) _ f) e f
+    pub after_trace : (n : ℕ) → trace_answer h.signals t ≡ Ok n → number ≡ rest
+    after_trace n cycled = after_sheet ∙ or_second (trace_refusal (header_of s).signals t) rest (cycles_accepted (header_of s).signals t n (same_header ∙ cycled)).0
 
-  pub by_words : sheet_refusal s ≡ 0 → trace_refusal (header_of s).signals t ≡ 0 → length words < least_words → Refuses 15
-  unfolding table_refusal
-  by_words a b l =
-      let few = words_few words l in
-      let refused = ap (λ (k : ℕ). eqb k 0) few in
-      by_number 15 (words_refusal words)
-      (or_second (sheet_refusal s) _ a ∙ or_second (trace_refusal (header_of s).signals t) _ b ∙ or_first (words_refusal words) _ refused)
-      (sym few) refused
+  module _ {A : Type 0} (value : A) (words : List ℕ) where
+    pub sheet_refuses : (e : Refusal) → sheet_answer s ≡ Err e → Answers number value words (Err e) words
+    sheet_refuses e is =
+        let applies = answer_refused s e is in
+        answers_refused number value words e (applies ∙ sym (or_first (sheet_refusal s) _ (refusal_applies e applies)))
 
-  pub by_node : sheet_refusal s ≡ 0 → trace_refusal (header_of s).signals t ≡ 0 → least_words ≤ length words
-      → node_refusal (nodes_of s) (header_of s).nodes (cycle_count t) (header_of s).names node p0 p1 p2 ≡ table_refusal s t node p0 p1 p2 words
-  unfolding table_refusal
-  by_node a b l =
-      sym (or_second (sheet_refusal s) _ a ∙ or_second (trace_refusal (header_of s).signals t) _ b ∙ or_second (words_refusal words) _ (words_many words l))
+    module _ (h : Header) (accepted : sheet_answer s ≡ Ok h) where
+      pub trace_refuses : (e : Refusal) → trace_answer h.signals t ≡ Err e → Answers number value words (Err e) words
+      trace_refuses e is =
+          let applies = cycles_refused (header_of s).signals t e (same_header h accepted ∙ is) in
+          answers_refused number value words e
+          (applies ∙ sym (after_sheet h accepted ∙ or_first (trace_refusal (header_of s).signals t) rest (refusal_applies e applies)))
+
+      pub rest_refuses : (n : ℕ) → trace_answer h.signals t ≡ Ok n → (e : Refusal) → number_of e ≡ rest → Answers number value words (Err e) words
+      rest_refuses n cycled e is = answers_refused number value words e (is ∙ sym (after_trace h accepted n cycled))
+
+pub few_words : (words : List ℕ) → length words < least_words → number_of FewWords ≡ words_refusal words
+unfolding number_of
+few_words words l = sym (words_few words l)
+
+pub few_words_first : (words : List ℕ) (rest : ℕ) → length words < least_words → number_of FewWords ≡ or_else (words_refusal words) rest
+unfolding number_of
+few_words_first words rest l =
+    let few = words_few words l in
+    sym (or_first (words_refusal words) rest (ap (λ (k : ℕ). eqb k 0) few) ∙ few)
+
+pub words_cleared : (number : ℕ) (words : List ℕ) → number ≡ 0 → replicate (length words) 0 ≡ words_after number words
+unfolding words_after pick
+words_cleared number words e = rw e

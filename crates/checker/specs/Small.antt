@@ -1,11 +1,9 @@
--- Answers whose numbers are as small as those of the check: a clause is one of eight, a cycle one of 64, and advice is a byte.
+-- Verdicts whose numbers are as small as those of the check: a clause is one of eight, a cycle one of 64, and advice is a byte.
 use Rattle.std.specs.Prelude.{◌<◌}
 use Rattle.checker.specs.declared.check.Place.{Place}
 use Rattle.checker.specs.declared.check.Finding.{Finding}
 use Rattle.checker.specs.declared.check.Finding.TheVariants.{Excused, Broken, Holds}
 use Rattle.checker.specs.declared.check.Verdict.{Verdict}
-use Rattle.checker.specs.declared.check.Answer.{Answer}
-use Rattle.checker.specs.declared.check.Answer.TheVariants.{Refused, Checked}
 
 abbrev pub SmallPlace : Place → Type 0
 SmallPlace p = (p.clause < 8) × (p.i < 64) × (p.j < 64) × (p.k < 64)
@@ -17,7 +15,3 @@ SmallFinding Holds = 0 < 8
 
 abbrev pub SmallVerdict : Verdict → Type 0
 SmallVerdict v = SmallFinding v.finding × (v.advice < 256)
-
-abbrev pub Small : Answer → Type 0
-Small (Refused number) = number < 100
-Small (Checked v) = SmallVerdict v

@@ -1,18 +1,19 @@
 -- Document 01, "Verdicts and tables": the table operation, and refusals 15 to 17.
-use Rattle.std.specs.Prelude.{ℕ, Bool, not, cond, ◌&&◌, ◌||◌, List, [], ◌∷◌, leb, ltb, eqb, length, replicate}
+use Rattle.std.specs.Prelude.{ℕ, Bool, not, cond, ◌&&◌, ◌||◌, List, [], ◌∷◌, leb, ltb, eqb, length, replicate, Result, Ok, Err}
 use Rattle.semantics.specs.Proposition.{Trace}
 use Rattle.semantics.specs.Formula.{holds}
 use Rattle.semantics.specs.Placement.{Placement, marks}
 use Rattle.rows.specs.Row.{row}
 use Rattle.stored.specs.declared.Node.{Node}
+use Rattle.stored.specs.declared.refusal.Refusal.{Refusal}
 use Rattle.stored.specs.Bytes.{in_order, lowest}
 use Rattle.stored.specs.Layout.{least_words}
 use Rattle.stored.specs.Node.{requirement_sorts, is_formula_node}
+use Rattle.stored.specs.Refusal.{answered}
 use Rattle.stored.specs.Sheet.{header_of, nodes_of, sheet_refusal}
 use Rattle.traces.specs.Trace.{cycle_count, cycles_of, trace_refusal}
 use Rattle.stored.specs.Tree.{pick, formula_at}
 use Rattle.tables.specs.Table.{standing}
-use Rattle.checker.specs.declared.table.TableAnswer.{TableAnswer}
 
 -- a name below m is put on one of the n cycles
 unfoldable pub name_placed : ℕ → ℕ → ℕ → ℕ → Bool
@@ -55,17 +56,16 @@ table_refusal s t node p0 p1 p2 words =
     (or_else (words_refusal words)
     (node_refusal (nodes_of s) (header_of s).nodes (cycle_count t) (header_of s).names node p0 p1 p2)))
 
--- a refused table's words are zero
-unfoldable pub refused_with : ℕ → TableAnswer
-refused_with number = record { refused = number; rows = replicate 64 0 }
-
-unfoldable pub answer_for : ℕ → List ℕ → TableAnswer
-answer_for number rows = record { refused = number; rows = pick (eqb number 0) rows (replicate 64 0) }
-
-unfoldable pub table_answer : List ℕ → List ℕ → ℕ → ℕ → ℕ → ℕ → List ℕ → TableAnswer
+-- the node's rows, or the refusal with the lowest number that applies
+unfoldable pub table_answer : List ℕ → List ℕ → ℕ → ℕ → ℕ → ℕ → List ℕ → Result (List ℕ) Refusal
 table_answer s t node p0 p1 p2 words =
-    answer_for (table_refusal s t node p0 p1 p2 words)
+    answered (table_refusal s t node p0 p1 p2 words)
     (table_of (nodes_of s) (cycles_of t) node (placement_of (header_of s).names p0 p1 p2))
+
+-- the 64 words of an answer: a refused table's are zero
+unfoldable pub table_words : Result (List ℕ) Refusal → List ℕ
+table_words (Ok rows) = rows
+table_words (Err refusal) = replicate 64 0
 
 -- what the lent words hold afterwards: they are all zero, and unchanged where there is a refusal
 unfoldable pub words_after : ℕ → List ℕ → List ℕ

@@ -10,15 +10,14 @@ ghost use Rattle.checker.specs.Check.{told, told_whole, check_answer, check_refu
 ghost use Rattle.checker.specs.Clauses.{Sounds, clause_at, place_of};
 
 use crate::failing::{Failing, Sizes, failing_advice, first_failing};
-use stored::SheetAnswer;
 use stored::clauses::{ASSUMPTION, COMMITMENT};
 use stored::layout::LEAST_WORDS;
 use stored::masks::reach_table;
-use stored::sheet::{clause_part, node_part, read_sheet, sheet_number};
+use stored::refusal::Refusal;
+use stored::sheet::{clause_part, node_part, read_sheet};
 use tables::fill::lay_first;
 use tables::words::clear;
-use traces::TraceAnswer;
-use traces::trace::{columns, read_trace, trace_number};
+use traces::trace::{columns, read_trace};
 
 // A clause's number and its three cycles.
 #[derive(Clone, Copy)]
@@ -42,13 +41,6 @@ pub enum Finding {
 pub struct Verdict {
     pub finding: Finding,
     pub advice: usize,
-}
-
-// The verdict, or the number of the refusal.
-#[derive(Clone, Copy)]
-pub enum Answer {
-    Refused(usize),
-    Checked(Verdict),
 }
 
 // The place with a number.
@@ -117,21 +109,15 @@ fn verdict_of(
     Verdict { finding, advice }
 }
 
-// The verdict of a sheet on a trace. The lent words are all zero afterwards, or as they were where a refusal's number is the answer.
-pub fn check(sheet: &[u8], trace: &[u8], words: &mut [u64]) -> Answer
+// The verdict of a sheet on a trace. The lent words are all zero afterwards, or as they were where it is refused.
+pub fn check(sheet: &[u8], trace: &[u8], words: &mut [u64]) -> Result<Verdict, Refusal>
     ensures value { result ≡ check_answer sheet.now trace.now words.old }
     ensures words_after { words.new ≡ words_after (check_refusal sheet.now trace.now words.old) words.old }
 {
-    let sheet_answer = read_sheet(sheet);
-    let SheetAnswer::Accepted(h) = sheet_answer else {
-        return Answer::Refused(sheet_number(sheet_answer));
-    };
-    let trace_answer = read_trace(trace, h.signals);
-    let TraceAnswer::Cycles(n) = trace_answer else {
-        return Answer::Refused(trace_number(trace_answer));
-    };
+    let h = read_sheet(sheet)?;
+    let n = read_trace(trace, h.signals)?;
     if words.len() < LEAST_WORDS {
-        return Answer::Refused(15);
+        return Err(Refusal::FewWords);
     }
     let nodes = node_part(sheet, h);
     let clauses = clause_part(sheet, h);
@@ -141,6 +127,5 @@ pub fn check(sheet: &[u8], trace: &[u8], words: &mut [u64]) -> Answer
         cycles: n,
     };
     let mut columns = columns(trace, h.signals, n);
-    let verdict = verdict_of(clauses, sizes, nodes, &mut columns, words);
-    Answer::Checked(verdict)
+    Ok(verdict_of(clauses, sizes, nodes, &mut columns, words))
 }

@@ -4,34 +4,18 @@ ghost use Rattle.stored.specs.Bytes.{in_order};
 ghost use Rattle.stored.specs.Node.{node_at, requirement_sorts, sort_of, formula};
 ghost use Rattle.traces.specs.Columns.{trace_of};
 ghost use Rattle.stored.specs.Tree.{earlier};
+ghost use Rattle.stored.specs.Refusal.{answered};
 ghost use Rattle.tables.specs.Table.{standing, Inside, row_at};
 ghost use Rattle.tables.specs.Ready.{Given};
-ghost use Rattle.checker.specs.Table.{name_placed, names_placed, heeded, placement_of, table_of, node_refusal, answer_for, refused_with, words_after, table_answer, table_refusal};
+ghost use Rattle.checker.specs.Table.{name_placed, names_placed, heeded, placement_of, table_of, node_refusal, words_after, table_answer, table_refusal};
 
-use stored::SheetAnswer;
 use stored::layout::LEAST_WORDS;
 use stored::nodes::is_formula_node;
-use stored::sheet::{node_part, read_sheet, sheet_number};
+use stored::refusal::Refusal;
+use stored::sheet::{node_part, read_sheet};
 use tables::fill::lay_first;
 use tables::words::{clear, row_at};
-use traces::TraceAnswer;
-use traces::trace::{columns, read_trace, trace_number};
-
-// The number of the refusal, 0 for none, and the rows of the table.
-#[derive(Drop)]
-pub struct TableAnswer {
-    pub refused: usize,
-    pub rows: [u64; 64],
-}
-
-fn refused(number: usize) -> TableAnswer
-    ensures { result ≡ refused_with number }
-{
-    TableAnswer {
-        refused: number,
-        rows: [0; 64],
-    }
-}
+use traces::trace::{columns, read_trace};
 
 // Name u is no name of the sheet, or stands on a cycle of the trace.
 fn name_placed(m: usize, n: usize, u: usize, p: usize) -> bool
@@ -73,10 +57,8 @@ fn copy_rows(words: &[u64], i: usize, n: usize) -> [u64; 64]
     ensures { result ≡ in_order 64 (earlier n 0 (row_at words.now i)) }
 {
     let mut rows = [0u64; 64];
-    let mut b = 0;
-    while b < n {
+    for b in 0..n {
         rows[b] = row_at(words, i, b);
-        b += 1;
     }
     rows
 }
@@ -112,23 +94,22 @@ fn node_table(
     given: [usize; 3],
     columns: &mut [u64],
     words: &mut [u64],
-) -> TableAnswer
+) -> Result<[u64; 64], Refusal>
     requires { Given nodes.now count n columns.old words.old }
-    ensures value { result ≡ answer_for (node_refusal (node_at nodes.now) count n m node (get_or given 0 0) (get_or given 1 0) (get_or given 2 0)) (table_of (node_at nodes.now) (trace_of n columns.old) node (placement_of m (get_or given 0 0) (get_or given 1 0) (get_or given 2 0))) }
+    ensures value { result ≡ answered (node_refusal (node_at nodes.now) count n m node (get_or given 0 0) (get_or given 1 0) (get_or given 2 0)) (table_of (node_at nodes.now) (trace_of n columns.old) node (placement_of m (get_or given 0 0) (get_or given 1 0) (get_or given 2 0))) }
     ensures words_after { words.new ≡ words_after (node_refusal (node_at nodes.now) count n m node (get_or given 0 0) (get_or given 1 0) (get_or given 2 0)) words.old }
 {
     if !is_formula_node(nodes, count, node) {
-        return refused(16);
+        return Err(Refusal::NotAFormula);
     }
     if !names_placed(m, n, given) {
-        return refused(17);
+        return Err(Refusal::NameOffTrace);
     }
-    let rows = rows_of(nodes, count, n, node, heed_all(m, given), columns, words);
-    TableAnswer { refused: 0, rows }
+    Ok(rows_of(nodes, count, n, node, heed_all(m, given), columns, words))
 }
 
 // The table of a formula node of a sheet over a trace, each name on the cycle given for it, names from m up ignored.
-// The lent words are all zero afterwards, or as they were where a refusal's number is the answer.
+// The lent words are all zero afterwards, or as they were where it is refused.
 pub fn table(
     sheet: &[u8],
     trace: &[u8],
@@ -137,24 +118,25 @@ pub fn table(
     p1: usize,
     p2: usize,
     words: &mut [u64],
-) -> TableAnswer
+) -> Result<[u64; 64], Refusal>
     ensures value { result ≡ table_answer sheet.now trace.now node p0 p1 p2 words.old }
     ensures words_after { words.new ≡ words_after (table_refusal sheet.now trace.now node p0 p1 p2 words.old) words.old }
 {
-    let sheet_answer = read_sheet(sheet);
-    let SheetAnswer::Accepted(h) = sheet_answer else {
-        return refused(sheet_number(sheet_answer));
-    };
-    let count = h.nodes;
-    let m = h.names;
-    let trace_answer = read_trace(trace, h.signals);
-    let TraceAnswer::Cycles(n) = trace_answer else {
-        return refused(trace_number(trace_answer));
-    };
+    let h = read_sheet(sheet)?;
+    let n = read_trace(trace, h.signals)?;
     if words.len() < LEAST_WORDS {
-        return refused(15);
+        return Err(Refusal::FewWords);
     }
     let nodes = node_part(sheet, h);
     let mut columns = columns(trace, h.signals, n);
-    node_table(nodes, count, n, m, node, [p0, p1, p2], &mut columns, words)
+    node_table(
+        nodes,
+        h.nodes,
+        n,
+        h.names,
+        node,
+        [p0, p1, p2],
+        &mut columns,
+        words,
+    )
 }

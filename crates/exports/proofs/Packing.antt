@@ -8,25 +8,27 @@ use native.Mathlib.Omega.{arith}
 use borrow.Author.Tests.{eqb-true}
 use lib.Dec.{eqb, ltb, leb}
 use lib.ListN.{length, take}
-use Rattle.stored.specs.declared.WriteAnswer.{WriteAnswer}
-use Rattle.stored.specs.declared.WriteAnswer.TheVariants as writing
+use Rattle.std.specs.Prelude.{Result, Ok, Err}
+use Rattle.stored.specs.declared.refusal.Refusal.{Refusal}
+use Rattle.stored.specs.Refusal.{number_of, answer_number}
+use Rattle.stored.proofs.Refusals.{numbered_number}
 use Rattle.stored.specs.Layout.{nodes_end, clauses_end, least_output}
 use Rattle.semantics.proofs.Tests.{and_right}
 use Rattle.semantics.proofs.Cycles.{count_most}
 use Rattle.stored.specs.Sheet.{header_of, nodes_of, sized, sheet_refusal}
 use Rattle.stored.specs.Tree.{pick}
 use Rattle.stored.specs.Emitted.{is_emitted, emitted_counted}
-use Rattle.stored.proofs.Accepted.{opened, sheet_small}
+use Rattle.stored.proofs.Accepted.{opened}
 use Rattle.stored.proofs.Emitted.{emitted_opened}
 use Rattle.checker.specs.declared.check.Place.{Place}
 use Rattle.checker.specs.declared.check.Finding.{Finding}
 use Rattle.checker.specs.declared.check.Finding.TheVariants as finding
-use Rattle.stored.specs.Output.{write_number, written_length}
+use Rattle.stored.specs.Output.{written_length}
 use Rattle.translator.specs.Refusal.{translate_refusal}
 use Rattle.plans.specs.Bound.{drawing_at, drawings, node_bound}
 use Rattle.translator.specs.Translated.{Translated}
 use Rattle.text.specs.Text.{ReadText}
-use Rattle.text.proofs.Text.{written_fits, refused_small}
+use Rattle.text.proofs.Text.{written_fits}
 use Rattle.translator.proofs.Translating.{number_told}
 use Rattle.checker.specs.Small.{SmallPlace, SmallFinding}
 use Rattle.exports.specs.Packed.{packed_place, packed_finding, findings, packed_writing, unpacked_writing, SmallWriting}
@@ -48,16 +50,16 @@ finding_small (finding.Broken p) h = omega (arith, place_small p h)
 finding_small finding.Holds h = omega arith
 
 -- ---- the answer of an operation that writes a sheet
-pub unpacked : (a : WriteAnswer) → unpacked_writing (packed_writing a) ≡ a
+pub unpacked : (a : Result ℕ Refusal) → unpacked_writing (packed_writing a) ≡ a
 unfolding packed_writing unpacked_writing pick
-unpacked (writing.Written size) =
+unpacked (Ok size) =
     let tag : (4 + size * 256) % 256 ≡ 4 = omega arith in
     let value : (4 + size * 256) / 256 ≡ size = omega arith in
     rw (tag, value)
-unpacked (writing.Refused number) =
-    let tag : number * 256 % 256 ≡ 0 = omega arith in
-    let value : number * 256 / 256 ≡ number = omega arith in
-    rw (tag, value)
+unpacked (Err e) =
+    let tag : number_of e * 256 % 256 ≡ 0 = omega arith in
+    let value : number_of e * 256 / 256 ≡ number_of e = omega arith in
+    rw (tag, value) (ap Err (numbered_number e))
 
 bound_most : (s : List ℕ) → sheet_refusal s ≡ 0 → node_bound s ≤ 1025
 unfolding node_bound drawings
@@ -90,18 +92,9 @@ sheet_accepted s size e = go (eqb (sheet_refusal s) 0) refl e
     go true t e = eqb-true (sheet_refusal s) 0 t
     go false t e = e
 
-refusal_small : (s : List ℕ) (size : ℕ) → translate_refusal s size < 100
-unfolding translate_refusal
-refusal_small s size = go (eqb (sheet_refusal s) 0) (ltb size least_output) (sheet_small s)
-  where
-    go : (a b : Bool) → sheet_refusal s < 10 → cond a (cond b 14 0) (sheet_refusal s) < 100
-    go true true h = omega arith
-    go true false h = omega arith
-    go false b h = omega arith
-
-pub formula_small : (s x y : List ℕ) (r : WriteAnswer) → Translated s x y r → SmallWriting r
-unfolding write_number written_length
-formula_small s x y (writing.Written size) t =
+pub formula_small : (s x y : List ℕ) (r : Result ℕ Refusal) → Translated s x y r → SmallWriting r
+unfolding answer_number written_length
+formula_small s x y (Ok size) t =
     let none : translate_refusal s (length x) ≡ 0 = sym (number_told t) in
     let f = t.formula none in
     let long = t.long none in
@@ -109,26 +102,23 @@ formula_small s x y (writing.Written size) t =
     let bound = f.bound in
     let most = bound_most s (sheet_accepted s (length x) none) in
     omega arith
-formula_small s x y (writing.Refused number) t =
-    let told : number ≡ translate_refusal s (length x) = number_told t in
-    let small = refusal_small s (length x) in
-    omega arith
+formula_small s x y (Err e) t = tt
 
-pub text_small : (text x y : List ℕ) (r : WriteAnswer) → ReadText text x y r → SmallWriting r
-text_small text x y (writing.Written size) p = omega (arith, (written_fits text x y size p).long)
-text_small text x y (writing.Refused number) p = omega (arith, (refused_small text x y number p).0)
+pub text_small : (text x y : List ℕ) (r : Result ℕ Refusal) → ReadText text x y r → SmallWriting r
+text_small text x y (Ok size) p = omega (arith, (written_fits text x y size p).long)
+text_small text x y (Err e) p = tt
 
 -- what is promised of an answer is promised of the packed one
-writing_packed : (Promised : WriteAnswer → Type 0) (a : WriteAnswer) (r : ℕ) → Promised a → r ≡ packed_writing a
+writing_packed : (Promised : Result ℕ Refusal → Type 0) (a : Result ℕ Refusal) (r : ℕ) → Promised a → r ≡ packed_writing a
     → (r ≡ packed_writing (unpacked_writing r)) × Promised (unpacked_writing r)
 writing_packed Promised a r t e =
     let same : unpacked_writing r ≡ a = ap unpacked_writing e ∙ unpacked a in
     (e ∙ ap packed_writing (sym same), subst Promised (sym same) t)
 
-pub formula_packed : (s x y : List ℕ) (a : WriteAnswer) (r : ℕ) → Translated s x y a → r ≡ packed_writing a
+pub formula_packed : (s x y : List ℕ) (a : Result ℕ Refusal) (r : ℕ) → Translated s x y a → r ≡ packed_writing a
     → (r ≡ packed_writing (unpacked_writing r)) × Translated s x y (unpacked_writing r)
 formula_packed s x y a r = writing_packed (Translated s x y) a r
 
-pub text_packed : (text x y : List ℕ) (a : WriteAnswer) (r : ℕ) → ReadText text x y a → r ≡ packed_writing a
+pub text_packed : (text x y : List ℕ) (a : Result ℕ Refusal) (r : ℕ) → ReadText text x y a → r ≡ packed_writing a
     → (r ≡ packed_writing (unpacked_writing r)) × ReadText text x y (unpacked_writing r)
 text_packed text x y a r = writing_packed (ReadText text x y) a r

@@ -9,11 +9,14 @@ use Rattle.stored.specs.Tree.{pick}
 use Rattle.checker.specs.declared.check.Place.{Place}
 use Rattle.checker.specs.declared.check.Finding.{Finding}
 use Rattle.checker.specs.declared.check.Finding.TheVariants.{Excused, Broken, Holds}
-use Rattle.checker.specs.declared.check.Answer.{Answer}
-use Rattle.checker.specs.declared.check.Answer.TheVariants.{Refused, Checked}
+use Rattle.std.specs.Prelude.{Result, Ok, Err, IfOk}
+use Rattle.stored.specs.declared.refusal.Refusal.{Refusal}
+use Rattle.stored.specs.Refusal.{number_of, refusal_numbered}
+use Rattle.stored.proofs.Refusals.{numbered_number}
+use Rattle.checker.specs.declared.check.Verdict.{Verdict}
 use Rattle.checker.specs.Check.{check_answer}
-use Rattle.checker.specs.Small.{SmallFinding, Small}
-use Rattle.checker.proofs.Bounds.{answer_small}
+use Rattle.checker.specs.Small.{SmallFinding, SmallVerdict}
+use Rattle.checker.proofs.Bounds.{verdict_fits}
 use Rattle.exports.specs.Packed.{packed_place, packed_finding, findings, packed, unpacked_place, unpacked_finding, unpacked}
 use Rattle.exports.proofs.Packing.{finding_small}
 
@@ -58,19 +61,19 @@ lower x y h = omega arith
 upper : (x y : ℕ) → x < findings → (x + y * findings) / findings ≡ y
 upper x y h = omega arith
 
-pub back : (a : Answer) → Small a → unpacked (packed a) ≡ a
+pub back : (a : Result Verdict Refusal) → IfOk a SmallVerdict → unpacked (packed a) ≡ a
 unfolding unpacked packed pick
-back (Refused number) h =
-    let tag : number * 256 % 256 ≡ 0 = omega arith in
-    let value : number * 256 / 256 ≡ number = omega arith in
-    rw (tag, value)
-back (Checked v) h =
+back (Err e) h =
+    let tag : number_of e * 256 % 256 ≡ 0 = omega arith in
+    let value : number_of e * 256 / 256 ≡ number_of e = omega arith in
+    rw (tag, value) (ap Err (numbered_number e))
+back (Ok v) h =
     let x = packed_finding v.finding in
     let small = finding_small v.finding h.0 in
     rw (lower_tag x v.advice, finding_tag v.finding)
-    (ap₂ (λ (f : Finding) (y : ℕ). Checked (record { finding = f; advice = y }))
+    (ap₂ (λ (f : Finding) (y : ℕ). Ok (record { finding = f; advice = y }))
     (ap unpacked_finding (lower x v.advice small) ∙ finding_back v.finding h.0)
     (upper x v.advice small))
 
 pub unpacked_is : (s t words : List ℕ) (r : ℕ) → r ≡ packed (check_answer s t words) → unpacked r ≡ check_answer s t words
-unpacked_is s t words r e = ap unpacked e ∙ back (check_answer s t words) (answer_small s t words)
+unpacked_is s t words r e = ap unpacked e ∙ back (check_answer s t words) (verdict_fits s t words)

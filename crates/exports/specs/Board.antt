@@ -1,14 +1,14 @@
 -- A board in lent cells: its sheet's bytes, its cycles, how many of them are taken, and the verdict last given as one number, 0 for none.
-use Rattle.std.specs.Prelude.{ℕ, List, eqb}
+use Rattle.std.specs.Prelude.{ℕ, List, eqb, Option}
+use Rattle.std.specs.Result.{result_ok}
 use Rattle.stored.specs.Tree.{pick}
 use Rattle.board.specs.declared.Board.{Board}
-use Rattle.board.specs.declared.Shown.{Shown}
-use Rattle.board.specs.Board.{shown_of}
+use Rattle.checker.specs.declared.check.Verdict.{Verdict}
 use Rattle.exports.specs.Packed.{unpacked}
 
 -- what a number says of the verdict last given: that of an answer, and none where it is no verdict's
-unfoldable pub shown_in : ℕ → Shown
-shown_in number = shown_of (unpacked number)
+unfoldable pub shown_in : ℕ → Option Verdict
+shown_in number = result_ok (unpacked number)
 
 -- the board that lent cells are
 unfoldable pub board_in : List ℕ → List ℕ → ℕ → ℕ → Board

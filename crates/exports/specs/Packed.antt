@@ -1,7 +1,7 @@
 -- An answer as one number, its tag and 256 times its value, and the advice above them; and a table in lent rows.
-use Rattle.std.specs.Prelude.{ℕ, ◌+◌, ◌*◌, ◌/◌, ◌%◌, ◌≤◌, cond, ◌&&◌, List, [], ◌∷◌, ◌++◌, eqb, leb, length, drop}
-use Rattle.stored.specs.declared.WriteAnswer.{WriteAnswer}
-use Rattle.stored.specs.declared.WriteAnswer.TheVariants as writing
+use Rattle.std.specs.Prelude.{ℕ, ◌+◌, ◌*◌, ◌/◌, ◌%◌, ◌≤◌, cond, ◌&&◌, List, [], ◌∷◌, ◌++◌, eqb, leb, length, drop, Result, Ok, Err, IfOk}
+use Rattle.stored.specs.declared.refusal.Refusal.{Refusal}
+use Rattle.stored.specs.Refusal.{number_of, refusal_numbered}
 use Rattle.stored.specs.Bytes.{lowest}
 use Rattle.stored.specs.Layout.{least_output, least_words}
 use Rattle.stored.specs.Sheet.{header_of, nodes_of, sheet_refusal}
@@ -10,8 +10,7 @@ use Rattle.stored.specs.Tree.{pick}
 use Rattle.checker.specs.declared.check.Place.{Place}
 use Rattle.checker.specs.declared.check.Finding.{Finding}
 use Rattle.checker.specs.declared.check.Finding.TheVariants.{Excused, Broken, Holds}
-use Rattle.checker.specs.declared.check.Answer.{Answer}
-use Rattle.checker.specs.declared.check.Answer.TheVariants.{Refused, Checked}
+use Rattle.checker.specs.declared.check.Verdict.{Verdict}
 use Rattle.checker.specs.Table.{placement_of, table_of, node_refusal, or_else}
 
 -- a clause's number and its three cycles as one number, 6 bits a cycle
@@ -29,9 +28,9 @@ abbrev pub findings : ℕ
 findings = 4294967296
 
 -- the check's answer: tag 0 and the refusal's number, or the finding with the advice above it
-unfoldable pub packed : Answer → ℕ
-packed (Refused number) = number * 256
-packed (Checked v) = packed_finding v.finding + v.advice * findings
+unfoldable pub packed : Result Verdict Refusal → ℕ
+packed (Ok v) = packed_finding v.finding + v.advice * findings
+packed (Err refusal) = number_of refusal * 256
 
 -- and back: what a caller reads in the number
 unfoldable pub unpacked_place : ℕ → Place
@@ -40,23 +39,22 @@ unpacked_place v = record { clause = v / 262144; i = v / 4096 % 64; j = v / 64 %
 unfoldable pub unpacked_finding : ℕ → Finding
 unpacked_finding r = pick (eqb (r % 256) 1) (Excused (r / 256)) (pick (eqb (r % 256) 2) (Broken (unpacked_place (r / 256))) Holds)
 
-unfoldable pub unpacked : ℕ → Answer
+unfoldable pub unpacked : ℕ → Result Verdict Refusal
 unpacked r =
-    pick (eqb (r % 256) 0) (Refused (r / 256)) (Checked (record { finding = unpacked_finding (r % findings); advice = r / findings }))
+    pick (eqb (r % 256) 0) (Err (refusal_numbered (r / 256))) (Ok (record { finding = unpacked_finding (r % findings); advice = r / findings }))
 
 -- the answer of an operation that writes a sheet: tag 0 and the refusal's number, 4 and the length of the sheet written
-unfoldable pub packed_writing : WriteAnswer → ℕ
-packed_writing (writing.Written size) = 4 + size * 256
-packed_writing (writing.Refused number) = number * 256
+unfoldable pub packed_writing : Result ℕ Refusal → ℕ
+packed_writing (Ok size) = 4 + size * 256
+packed_writing (Err refusal) = number_of refusal * 256
 
 -- and back
-unfoldable pub unpacked_writing : ℕ → WriteAnswer
-unpacked_writing r = pick (eqb (r % 256) 4) (writing.Written (r / 256)) (writing.Refused (r / 256))
+unfoldable pub unpacked_writing : ℕ → Result ℕ Refusal
+unpacked_writing r = pick (eqb (r % 256) 4) (Ok (r / 256)) (Err (refusal_numbered (r / 256)))
 
--- its number can be packed
-abbrev pub SmallWriting : WriteAnswer → Type 0
-SmallWriting (writing.Written size) = size ≤ least_output
-SmallWriting (writing.Refused number) = number ≤ least_output
+-- its length can be packed
+abbrev pub SmallWriting : Result ℕ Refusal → Type 0
+SmallWriting answer = IfOk answer (λ size. size ≤ least_output)
 
 -- the table's answer: tag 0 and the refusal's number, 4 and 0 where there is none
 unfoldable pub packed_table : ℕ → ℕ

@@ -7,9 +7,8 @@ ghost use Rattle.board.specs.Board.{new_board, feed_refusal, feed_answer, next_b
 ghost use Rattle.exports.specs.Packed.{packed, unpacked, packed_table};
 ghost use Rattle.exports.specs.Board.{board_in, cell_after};
 
-use crate::packed_verdict;
-use board::{Board, Shown};
-use checker::check::Answer;
+use crate::{packed_refusal, packed_verdict};
+use board::Board;
 use stored::layout::{MOST_CYCLES, MOST_SHEET};
 
 // Opens a board on a sheet: 4, and the lent cells are a board with no cycles and no verdict; or 256 times the refusal's number, 1 to 9, and
@@ -28,18 +27,18 @@ pub extern "C" fn fasunqir_open(
     ensures taken_after { taken.new ≡ cell_after (sheet_refusal sheet.now) 0 taken.old }
     ensures verdict_after { verdict.new ≡ cell_after (sheet_refusal sheet.now) 0 verdict.old }
 {
-    let opened = Board::open(sheet);
-    if opened.refused != 0 {
-        return (opened.refused as u64) * 256;
+    match Board::open(sheet) {
+        Ok(board) => {
+            let new = board.sheet;
+            let held = board.cycles;
+            *bytes = new;
+            *cycles = held;
+            *taken = board.taken;
+            *verdict = 0;
+            4
+        }
+        Err(refusal) => packed_refusal(refusal),
     }
-    let board = opened.board;
-    let new = board.sheet;
-    let held = board.cycles;
-    *bytes = new;
-    *cycles = held;
-    *taken = board.taken;
-    *verdict = 0;
-    4
 }
 
 // Feeds a cycle: the check's answer on the cycles taken before and this one, packed as that of fasunqir_check, and the lent cells are the
@@ -64,13 +63,11 @@ pub extern "C" fn fasunqir_feed(
         sheet: *bytes,
         cycles: *cycles,
         taken: *taken,
-        verdict: Shown::Nothing,
+        verdict: None,
     };
     let fed = board.feed(cycle, words);
-    let answer = fed.answer;
-    match answer {
-        Answer::Refused(number) => (number as u64) * 256,
-        Answer::Checked(told) => {
+    match fed.answer {
+        Ok(told) => {
             let number = packed_verdict(told);
             let next = fed.board;
             let held = next.cycles;
@@ -79,5 +76,6 @@ pub extern "C" fn fasunqir_feed(
             *verdict = number;
             number
         }
+        Err(refusal) => packed_refusal(refusal),
     }
 }

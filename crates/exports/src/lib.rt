@@ -4,20 +4,20 @@
 
 pub mod boards;
 
-ghost use Rattle.std.specs.Prelude.{◌≡◌, ◌++◌, ◌*◌, ◌≤◌, ◌<◌, length, drop};
+ghost use Rattle.std.specs.Prelude.{◌≡◌, ◌*◌, ◌≤◌, ◌<◌, length, IfOk};
+ghost use Rattle.stored.specs.Refusal.{number_of, answer_number};
 ghost use Rattle.stored.specs.Sheet.{header_of, sheet_refusal};
 ghost use Rattle.traces.specs.Trace.{trace_refusal};
 ghost use Rattle.checker.specs.Check.{check_answer, check_refusal};
-ghost use Rattle.checker.specs.Table.{or_else, words_after};
+ghost use Rattle.checker.specs.Table.{or_else, table_words, words_after};
 ghost use Rattle.translator.specs.Translated.{Translated};
 ghost use Rattle.text.specs.Text.{ReadText};
-ghost use Rattle.checker.specs.Small.{SmallPlace, SmallFinding, SmallVerdict, Small};
-ghost use Rattle.checker.specs.declared.check.Answer.TheVariants.{Checked};
+ghost use Rattle.checker.specs.Small.{SmallPlace, SmallFinding, SmallVerdict};
 ghost use Rattle.exports.specs.Packed.{packed_place, packed_finding, findings, packed, unpacked, packed_writing, unpacked_writing, SmallWriting, packed_table, rows_refusal, rows_of, rows_after};
 
-use checker::check::{Answer, Finding, Place, Verdict, check};
-use checker::table::{TableAnswer, table};
-use stored::WriteAnswer;
+use checker::check::{Finding, Place, Verdict, check};
+use checker::table::table;
+use stored::refusal::Refusal;
 use text::read::read_text;
 use translator::translate;
 
@@ -49,20 +49,27 @@ fn packed_finding(finding: Finding) -> u64
 // A finding in the lower half of a number, and the advice in the upper.
 fn packed_verdict(verdict: Verdict) -> u64
     requires { SmallVerdict verdict }
-    ensures { result ≡ packed (Checked verdict) }
+    ensures { result ≡ packed (Ok verdict) }
 {
     let finding = verdict.finding;
     packed_finding(finding) + (verdict.advice as u64) * FINDINGS
 }
 
-// The check's answer: 256 times the refusal's number, or its verdict.
-fn packed_answer(answer: Answer) -> u64
-    requires { Small answer }
+// 256 times a refusal's number.
+fn packed_refusal(refusal: Refusal) -> u64
+    ensures { result ≡ number_of refusal * 256 }
+{
+    (refusal.number() as u64) * 256
+}
+
+// The check's answer: its verdict, or 256 times the refusal's number.
+fn packed_answer(answer: Result<Verdict, Refusal>) -> u64
+    requires { IfOk answer SmallVerdict }
     ensures { result ≡ packed answer }
 {
     match answer {
-        Answer::Refused(number) => (number as u64) * 256,
-        Answer::Checked(verdict) => packed_verdict(verdict),
+        Ok(verdict) => packed_verdict(verdict),
+        Err(refusal) => packed_refusal(refusal),
     }
 }
 
@@ -81,13 +88,13 @@ pub extern "C" fn fasunqir_check(sheet: &[u8], trace: &[u8], words: &mut [u64]) 
 }
 
 // The answer of an operation that writes a sheet as its tag and 256 times its value.
-fn packed_writing(answer: WriteAnswer) -> u64
+fn packed_writing(answer: Result<usize, Refusal>) -> u64
     requires { SmallWriting answer }
     ensures { result ≡ packed_writing answer }
 {
     match answer {
-        WriteAnswer::Written(size) => 4 + (size as u64) * 256,
-        WriteAnswer::Refused(number) => (number as u64) * 256,
+        Ok(size) => 4 + (size as u64) * 256,
+        Err(refusal) => packed_refusal(refusal),
     }
 }
 
@@ -112,30 +119,19 @@ pub extern "C" fn fasunqir_read_text(text: &[u8], out: &mut [u8]) -> u64
     packed_writing(answer)
 }
 
-// The 64 rows over the first 64 of the lent ones.
-fn put_rows(from: &[u64], rows: &mut [u64])
-    requires { (length from.now ≡ 64) × (64 ≤ length rows.old) }
-    ensures { rows.new ≡ from.now ++ drop 64 rows.old }
-{
-    let mut b = 0;
-    while b < 64 {
-        rows[b] = from[b];
-        b += 1;
-    }
-}
-
 // The table's answer as its tag and 256 times its value; where there is no refusal its rows go over the first 64 of the lent ones.
-fn put_answer(answer: TableAnswer, rows: &mut [u64]) -> u64
-    requires { (answer.refused < 100) × (length answer.rows ≡ 64) × (64 ≤ length rows.old) }
-    ensures value { result ≡ packed_table answer.refused }
-    ensures rows_after { rows.new ≡ rows_after answer.refused answer.rows rows.old }
+fn put_answer(table: Result<[u64; 64], Refusal>, rows: &mut [u64]) -> u64
+    requires { 64 ≤ length rows.old }
+    ensures value { result ≡ packed_table (answer_number table) }
+    ensures rows_after { rows.new ≡ rows_after (answer_number table) (table_words table) rows.old }
 {
-    if answer.refused != 0 {
-        return (answer.refused as u64) * 256;
+    match table {
+        Ok(from) => {
+            rows[..64].copy_from_slice(&from);
+            4
+        }
+        Err(refusal) => packed_refusal(refusal),
     }
-    let from = answer.rows;
-    put_rows(&from, rows);
-    4
 }
 
 // 256 times the refusal's number where too little is lent: the table in one word is always refused, by 15 at the latest.
@@ -143,8 +139,7 @@ fn refused_short(sheet: &[u8], trace: &[u8]) -> u64
     ensures { result ≡ or_else (sheet_refusal sheet.now) (or_else (trace_refusal (header_of sheet.now).signals trace.now) 15) * 256 }
 {
     let mut few = [0u64; 1];
-    let answer = table(sheet, trace, 0, 0, 0, 0, &mut few);
-    (answer.refused as u64) * 256
+    packed_refusal(table(sheet, trace, 0, 0, 0, 0, &mut few).unwrap_err())
 }
 
 // The table of a formula node of a sheet over a trace, names 0, 1 and 2 on cycles p0, p1 and p2 and names from m up ignored:

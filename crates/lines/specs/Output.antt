@@ -1,17 +1,15 @@
 -- What a program writes where it may be a sheet: the lent bytes up to the length answered, or "REFUSED n" and a newline.
-use Rattle.std.specs.Prelude.{ℕ, ◌≤◌, ◌<◌, List, length}
+use Rattle.std.specs.Prelude.{ℕ, List, length, Result, Ok, Err}
 use Rattle.std.proofs.lemmas.List.Edits.{sets}
-use Rattle.stored.specs.declared.WriteAnswer.{WriteAnswer}
-use Rattle.stored.specs.declared.WriteAnswer.TheVariants.{Written, Refused}
-use Rattle.stored.specs.Layout.{least_output}
+use Rattle.stored.specs.declared.refusal.Refusal.{Refusal}
+use Rattle.stored.specs.Refusal.{number_of}
 use Rattle.lines.specs.declared.output.Output.{Output}
 use Rattle.lines.specs.Lines.{refused_text}
 
-unfoldable pub output_of : List ℕ → WriteAnswer → Output
-output_of bytes (Written size) = record { bytes = bytes; length = size }
-output_of bytes (Refused number) = record { bytes = sets bytes 0 (refused_text number); length = length (refused_text number) }
+-- the line of a refusal's number, at the front of the bytes
+unfoldable pub refused_output : List ℕ → ℕ → Output
+refused_output bytes number = record { bytes = sets bytes 0 (refused_text number); length = length (refused_text number) }
 
--- what is written is in the bytes, and the number has three digits at most
-abbrev pub SmallAnswer : WriteAnswer → Type 0
-SmallAnswer (Written size) = size ≤ least_output
-SmallAnswer (Refused number) = number < 1000
+unfoldable pub output_of : List ℕ → Result ℕ Refusal → Output
+output_of bytes (Ok size) = record { bytes = bytes; length = size }
+output_of bytes (Err refusal) = refused_output bytes (number_of refusal)

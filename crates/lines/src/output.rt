@@ -1,12 +1,11 @@
 // What a program writes where it may be a sheet: lent bytes up to a length, or the line of a refusal.
-ghost use Rattle.std.specs.Prelude.{◌≡◌, length, replicate, ◌<◌};
-ghost use Rattle.stored.specs.declared.WriteAnswer.TheVariants.{Refused};
+ghost use Rattle.std.specs.Prelude.{◌≡◌, ◌≤◌, ◌<◌, length, replicate, IfOk};
 ghost use Rattle.stored.specs.Layout.{least_output};
-ghost use Rattle.lines.specs.Output.{SmallAnswer, output_of};
+ghost use Rattle.lines.specs.Output.{refused_output, output_of};
 
 use crate::lines::put_refused;
-use stored::WriteAnswer;
 use stored::layout::LEAST_OUTPUT;
+use stored::refusal::Refusal;
 
 // Bytes, of which so many are written.
 #[derive(Drop)]
@@ -21,10 +20,10 @@ pub fn blank() -> [u8; LEAST_OUTPUT]
     [0; LEAST_OUTPUT]
 }
 
-// The line of a refusal.
+// The line of a refusal's number.
 pub fn refused(bytes: [u8; LEAST_OUTPUT], number: usize) -> Output
     requires { (length bytes ≡ least_output) × (number < 1000) }
-    ensures { result ≡ output_of bytes (Refused number) }
+    ensures { result ≡ refused_output bytes number }
 {
     let mut line = bytes;
     let length = put_refused(&mut line, number);
@@ -35,12 +34,12 @@ pub fn refused(bytes: [u8; LEAST_OUTPUT], number: usize) -> Output
 }
 
 // What is written for an answer, where these bytes were lent.
-pub fn answered(bytes: [u8; LEAST_OUTPUT], answer: WriteAnswer) -> Output
-    requires { (length bytes ≡ least_output) × SmallAnswer answer }
+pub fn answered(bytes: [u8; LEAST_OUTPUT], answer: Result<usize, Refusal>) -> Output
+    requires { (length bytes ≡ least_output) × IfOk answer (λ size. size ≤ least_output) }
     ensures { result ≡ output_of bytes answer }
 {
     match answer {
-        WriteAnswer::Written(length) => Output { bytes, length },
-        WriteAnswer::Refused(number) => refused(bytes, number),
+        Ok(length) => Output { bytes, length },
+        Err(refusal) => refused(bytes, refusal.number()),
     }
 }

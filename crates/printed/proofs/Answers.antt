@@ -8,9 +8,10 @@ use lib.ListN.{length, get_or, take, drop, replicate, length-drop, length-replic
 use lib.Seq.{take_all}
 use Rattle.stored.specs.Layout.{least_words}
 use Rattle.stored.specs.Bytes.{word, lowest}
+use Rattle.stored.specs.Refusal.{answered}
 use Rattle.stored.specs.Sheet.{header_of, nodes_of, sheet_refusal}
 use Rattle.traces.specs.Trace.{cycle_count, cycles_of, trace_refusal}
-use Rattle.checker.specs.Table.{or_else, words_refusal, node_refusal, table_refusal, table_answer, answer_for, table_of, placement_of}
+use Rattle.checker.specs.Table.{or_else, words_refusal, node_refusal, table_refusal, table_answer, table_of, placement_of}
 use Rattle.lines.specs.Input.{split_at, sheet_of, trace_of}
 use Rattle.checker.specs.Check.{check_refusal, check_answer}
 use Rattle.printed.specs.Page.{answer_to}
@@ -32,7 +33,7 @@ unfolding table_answer table_refusal words_refusal
 answer_words s t node p0 p1 p2 v w e =
     ap
     (λ (n : ℕ).
-    answer_for
+    answered
     (or_else (sheet_refusal s)
     (or_else (trace_refusal (header_of s).signals t)
     (or_else (lowest 15 (leb least_words n ∷ []))

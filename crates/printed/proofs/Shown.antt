@@ -1,21 +1,27 @@
 -- Laws of the line of a verdict and of the page of a table.
 use Prim.Native.Nat.{ℕ, ◌+◌, ◌*◌, ◌≤◌, ◌<◌}
 use mathlib.Core.List.{List, [], ◌∷◌, ◌++◌}
-use mathlib.Core.Path.{◌≡◌, refl, sym, ◌∙◌, subst}
+use mathlib.Core.Path.{◌≡◌, refl, sym, ◌∙◌, ap, subst}
 use native.Mathlib.Omega.{arith}
-use borrow.Author.Tests.{eq-eqb, ne_eqb}
 use lib.ListN.{length, get_or, drop, drop_of_length-le}
-use Rattle.stored.specs.Tree.{pick}
 use Rattle.stored.proofs.Rules.{length_in_order}
 use Rattle.checker.specs.declared.check.Finding.{Finding}
 use Rattle.checker.specs.declared.check.Finding.TheVariants.{Excused, Broken, Holds}
 use Rattle.checker.specs.declared.check.Verdict.{Verdict}
-use Rattle.checker.specs.declared.check.Answer.{Answer}
-use Rattle.checker.specs.declared.check.Answer.TheVariants.{Refused, Checked}
-use Rattle.checker.specs.Small.{SmallFinding, Small}
+use Rattle.checker.specs.Small.{SmallFinding, SmallVerdict}
+use Rattle.std.specs.Prelude.{Result, Ok, Err, IfOk}
+use Rattle.stored.specs.declared.refusal.Refusal.{Refusal}
+use Rattle.stored.specs.Refusal.{number_of}
+use Rattle.stored.specs.Sheet.{sheet_refusal}
+use Rattle.stored.specs.Tree.{pick}
+use Rattle.stored.proofs.Refusals.{number_most, refusal_applies, of_value, of_refusal}
+use Rattle.stored.proofs.Accepted.{sheet_small}
+use Rattle.board.specs.declared.Board.{Board}
+use Rattle.board.specs.Board.{new_board, open_answer}
+use Rattle.printed.specs.Wall.{opening_of}
 use Rattle.lines.specs.Lines.{line_with, ThreeDigits, refused_text, padded, Put}
-use Rattle.printed.specs.Line.{word_of, numbers_of, verdict_text, line_text, most_line}
-use Rattle.printed.specs.Page.{table_byte, table_text, text_of}
+use Rattle.printed.specs.Line.{word_of, numbers_of, verdict_text, line_text, most_line, line_of}
+use Rattle.printed.specs.Page.{table_byte, table_text}
 use Rattle.lines.proofs.Copies.{copied_all}
 use Rattle.lines.proofs.Texts.{line_fits, refused_length}
 
@@ -37,10 +43,10 @@ verdict_room (Excused clause) advice = omega arith
 verdict_room (Broken p) advice = omega arith
 verdict_room Holds advice = omega arith
 
-pub line_short : (answer : Answer) → Small answer → length (line_text answer) ≤ most_line
+pub line_short : (answer : Result Verdict Refusal) → IfOk answer SmallVerdict → length (line_text answer) ≤ most_line
 unfolding line_text verdict_text
-line_short (Refused number) h = omega (arith, refused_length number (omega (arith, h)))
-line_short (Checked v) h =
+line_short (Err e) h = omega (arith, refused_length (number_of e) (omega (arith, number_most e)))
+line_short (Ok v) h =
     line_fits (word_of v.finding) (numbers_of v.finding ++ (v.advice ∷ [])) most_line
     (verdict_room v.finding v.advice, verdict_digits v.finding v.advice h.0 h.1)
 
@@ -51,14 +57,10 @@ unfolding verdict_text
 put_found {x} {y} {r} v e p = subst (λ (g : Finding). Put x y 0 r (line_with (word_of g) (numbers_of g ++ (v.advice ∷ [])))) (sym e) p
 
 -- the same by the answer given
-pub put_told : {x y : List ℕ} {r : ℕ} {answer given : Answer} → answer ≡ given → Put x y 0 r (line_text given) → Put x y 0 r (line_text answer)
-put_told {x} {y} {r} e p = subst (λ (a : Answer). Put x y 0 r (line_text a)) (sym e) p
+pub put_told : {x y : List ℕ} {r : ℕ} {answer given : Result Verdict Refusal} → answer ≡ given → Put x y 0 r (line_text given) → Put x y 0 r (line_text answer)
+put_told {x} {y} {r} e p = subst (λ (a : Result Verdict Refusal). Put x y 0 r (line_text a)) (sym e) p
 
 -- ---- the page of a table
-pub table_text_lem : (rows : List ℕ) (number : ℕ) → number ≡ 0 → text_of number rows ≡ table_text rows
-unfolding text_of pick
-table_text_lem rows number e = rw (eq-eqb number 0 e)
-
 pub table_length : (rows : List ℕ) → length (table_text rows) ≡ 1088
 unfolding table_text
 table_length rows = length_in_order 1088 (table_byte rows)
@@ -68,12 +70,19 @@ pub padded_whole : (n : ℕ) (l : List ℕ) → length l ≡ n → padded n l �
 unfolding padded
 padded_whole n l e = sym (copied_all (λ k. get_or l k 0) n l n (omega arith) e (λ k m. refl))
 
-pub refusal_text : (rows : List ℕ) (number : ℕ) → (number ≡ 0 → ⊥) → text_of number rows ≡ refused_text number
-unfolding text_of pick
-refusal_text rows number ne = rw (ne_eqb number 0 ne)
-
 pub short_drop : (l : List ℕ) (n : ℕ) → length l < n → drop (length l) l ≡ drop n l
 short_drop l n h =
     let le : length l ≤ n = omega arith in
     let self : length l ≤ length l = omega arith in
     drop_of_length-le l self ∙ sym (drop_of_length-le l le)
+
+-- ---- the sheet of the board program
+pub opening_board : (s : List ℕ) (b : Board) → open_answer s ≡ Ok b → Ok b ≡ opening_of s
+unfolding open_answer opening_of pick
+opening_board s b e = let z = of_value (sheet_refusal s) (new_board s) b e in rw z.0 (ap Ok (sym z.1))
+
+pub opening_line : (s : List ℕ) (e : Refusal) → open_answer s ≡ Err e → Err (line_of (refused_text (number_of e))) ≡ opening_of s
+unfolding open_answer opening_of pick
+opening_line s e is =
+    let number = of_refusal (sheet_refusal s) (new_board s) e (let small = sheet_small s in omega arith) is in
+    rw (refusal_applies e number) (ap (λ (n : ℕ). Err (line_of (refused_text n))) number)

@@ -1,12 +1,12 @@
 -- Document 01, what the program prints: "BROKEN clause i j k", "HOLDS", "EXCUSED clause" or "REFUSED number", and a newline. A verdict ends with
 -- a space and its advice in decimal (request 5).
-use Rattle.std.specs.Prelude.{ℕ, List, [], ◌∷◌, ◌++◌, length, replicate}
+use Rattle.std.specs.Prelude.{ℕ, List, [], ◌∷◌, ◌++◌, length, replicate, Result, Ok, Err}
 use Rattle.stored.specs.Layout.{least_words}
 use Rattle.checker.specs.declared.check.Finding.{Finding}
 use Rattle.checker.specs.declared.check.Finding.TheVariants.{Excused, Broken, Holds}
 use Rattle.checker.specs.declared.check.Verdict.{Verdict}
-use Rattle.checker.specs.declared.check.Answer.{Answer}
-use Rattle.checker.specs.declared.check.Answer.TheVariants.{Refused, Checked}
+use Rattle.stored.specs.declared.refusal.Refusal.{Refusal}
+use Rattle.stored.specs.Refusal.{number_of}
 use Rattle.checker.specs.Check.{check_answer}
 use Rattle.printed.specs.declared.line.Line.{Line}
 use Rattle.lines.specs.Input.{sheet_of, trace_of}
@@ -35,9 +35,9 @@ numbers_of (Excused clause) = clause ∷ []
 unfoldable pub verdict_text : Verdict → List ℕ
 verdict_text v = line_with (word_of v.finding) (numbers_of v.finding ++ (v.advice ∷ []))
 
-unfoldable pub line_text : Answer → List ℕ
-line_text (Checked v) = verdict_text v
-line_text (Refused number) = refused_text number
+unfoldable pub line_text : Result Verdict Refusal → List ℕ
+line_text (Ok v) = verdict_text v
+line_text (Err refusal) = refused_text (number_of refusal)
 
 -- the bytes that a line takes at most
 abbrev pub most_line : ℕ
@@ -48,7 +48,7 @@ unfoldable pub line_of : List ℕ → Line
 line_of l = record { bytes = padded most_line l; length = length l }
 
 -- the check's answer to the program's input, over words enough
-unfoldable pub answer_for : List ℕ → Answer
+unfoldable pub answer_for : List ℕ → Result Verdict Refusal
 answer_for l = check_answer (sheet_of l) (trace_of l) (replicate least_words 0)
 
 unfoldable pub line_for : List ℕ → List ℕ

@@ -1,9 +1,9 @@
 -- The text of an answer of the table operation: 64 lines of 16 hexadecimal digits, row 0 first, or "REFUSED n" and a newline.
-use Rattle.std.specs.Prelude.{ℕ, ◌+◌, ◌-◌, ◌*◌, ◌/◌, ◌%◌, ◌^◌, cond, List, ltb, eqb, length, get_or, drop, replicate}
+use Rattle.std.specs.Prelude.{ℕ, ◌+◌, ◌-◌, ◌*◌, ◌/◌, ◌%◌, ◌^◌, cond, List, ltb, eqb, length, get_or, drop, replicate, Result, Ok, Err}
 use Rattle.stored.specs.Bytes.{word, in_order}
 use Rattle.stored.specs.Layout.{least_words}
-use Rattle.stored.specs.Tree.{pick}
-use Rattle.checker.specs.declared.table.TableAnswer.{TableAnswer}
+use Rattle.stored.specs.declared.refusal.Refusal.{Refusal}
+use Rattle.stored.specs.Refusal.{number_of}
 use Rattle.checker.specs.Table.{table_answer}
 use Rattle.printed.specs.declared.page.Page.{Page}
 use Rattle.lines.specs.Input.{sheet_of, trace_of}
@@ -23,17 +23,18 @@ table_byte rows k = row_byte (get_or rows (k / 17) 0) (k % 17)
 unfoldable pub table_text : List ℕ → List ℕ
 table_text rows = in_order 1088 (table_byte rows)
 
-unfoldable pub text_of : ℕ → List ℕ → List ℕ
-text_of number rows = pick (eqb number 0) (table_text rows) (refused_text number)
+unfoldable pub text_of : Result (List ℕ) Refusal → List ℕ
+text_of (Ok rows) = table_text rows
+text_of (Err refusal) = refused_text (number_of refusal)
 
 -- a text in an array of 1,088 bytes
 unfoldable pub page_of : List ℕ → Page
 page_of l = record { bytes = padded 1088 l; length = length l }
 
 -- The program's input is the node in two bytes, a byte for each of the three cycles, and the sheet with the trace.
-unfoldable pub answer_to : List ℕ → TableAnswer
+unfoldable pub answer_to : List ℕ → Result (List ℕ) Refusal
 answer_to l =
     table_answer (sheet_of (drop 5 l)) (trace_of (drop 5 l)) (word l 0) (get_or l 2 0) (get_or l 3 0) (get_or l 4 0) (replicate least_words 0)
 
 unfoldable pub printed_for : List ℕ → List ℕ
-printed_for l = text_of (answer_to l).refused (answer_to l).rows
+printed_for l = text_of (answer_to l)

@@ -1,7 +1,7 @@
 -- What the program sheettext writes: the stored sheet of a text, or "REFUSED n" and a newline.
-use Rattle.std.specs.Prelude.{ℕ, ◌≤◌, ◌<◌, List, ◌≡◌, length, take, drop, replicate}
-use Rattle.stored.specs.declared.WriteAnswer.{WriteAnswer}
-use Rattle.stored.specs.declared.WriteAnswer.TheVariants.{Written, Refused}
+use Rattle.std.specs.Prelude.{ℕ, ◌≤◌, ◌<◌, List, ◌≡◌, length, take, drop, replicate, Result, Ok, Err}
+use Rattle.stored.specs.declared.refusal.Refusal.{Refusal}
+use Rattle.stored.specs.Refusal.{number_of}
 use Rattle.stored.specs.Layout.{least_output}
 use Rattle.text.specs.Text.{ReadText}
 use Rattle.lines.specs.declared.output.Output.{Output}
@@ -12,14 +12,14 @@ abbrev pub most_text : ℕ
 most_text = 65536
 
 -- what is written for an answer, where y is now in the lent bytes
-unfoldable pub said_for : List ℕ → WriteAnswer → List ℕ
-said_for y (Written size) = take size y
-said_for y (Refused number) = refused_text number
+unfoldable pub said_for : List ℕ → Result ℕ Refusal → List ℕ
+said_for y (Ok size) = take size y
+said_for y (Err refusal) = refused_text (number_of refusal)
 
 -- what the operation on texts answers where bytes enough are lent, all zero
 pub record Answered (text out : List ℕ) : Type 0 where
   pub lent : List ℕ
-  pub answer : WriteAnswer
+  pub answer : Result ℕ Refusal
   pub read : ReadText text (replicate least_output 0) lent answer
   pub written : out ≡ said_for lent answer
 

@@ -1,16 +1,26 @@
--- The board program: each minute is a word of two bytes, fed over words enough.
-use Rattle.std.specs.Prelude.{ℕ, List, replicate}
+-- The board program: its sheet's board, or a line; then each minute is a word of two bytes, fed over words enough.
+use Rattle.std.specs.Prelude.{ℕ, List, replicate, eqb, Result, Ok, Err}
 use Rattle.stored.specs.Bytes.{word}
 use Rattle.stored.specs.Layout.{least_words}
-use Rattle.checker.specs.declared.check.Answer.{Answer}
+use Rattle.stored.specs.declared.refusal.Refusal.{Refusal}
+use Rattle.stored.specs.Sheet.{sheet_refusal}
+use Rattle.stored.specs.Tree.{pick}
+use Rattle.checker.specs.declared.check.Verdict.{Verdict}
 use Rattle.board.specs.declared.Board.{Board}
-use Rattle.board.specs.Board.{feed_answer, next_board}
+use Rattle.board.specs.Board.{new_board, feed_answer, next_board}
+use Rattle.lines.specs.Lines.{refused_text}
+use Rattle.printed.specs.declared.line.Line.{Line}
+use Rattle.printed.specs.Line.{line_of}
 
 -- the bytes of the longest input that is a sheet by its length field
 abbrev pub most_held : ℕ
 most_held = 65537
 
-unfoldable pub minute_answer : Board → List ℕ → Answer
+-- the new board of a sheet, or the line of its refusal
+unfoldable pub opening_of : List ℕ → Result Board Line
+opening_of s = pick (eqb (sheet_refusal s) 0) (Ok (new_board s)) (Err (line_of (refused_text (sheet_refusal s))))
+
+unfoldable pub minute_answer : Board → List ℕ → Result Verdict Refusal
 minute_answer b minute = feed_answer b (word minute 0) (replicate least_words 0)
 
 unfoldable pub minute_board : Board → List ℕ → Board

@@ -1,12 +1,13 @@
 // What the check and board programs write: a line with the verdict or with the number of the refusal.
-ghost use Rattle.std.specs.Prelude.{◌≡◌, ◌≤◌, length, replicate};
-ghost use Rattle.checker.specs.Small.{SmallVerdict, Small};
+ghost use Rattle.std.specs.Prelude.{◌≡◌, ◌≤◌, length, replicate, IfOk};
+ghost use Rattle.checker.specs.Small.{SmallVerdict};
 ghost use Rattle.lines.specs.Lines.{Put};
 ghost use Rattle.printed.specs.Line.{verdict_text, line_text, most_line, line_of, line_for, answer_for};
 
-use checker::check::{Answer, Finding, Verdict, check};
+use checker::check::{Finding, Verdict, check};
 use lines::input::{lent_words, split};
 use lines::lines::{put_line, put_refused};
+use stored::refusal::Refusal;
 
 // The bytes that a line takes at most.
 pub const MOST_LINE: usize = 32;
@@ -42,19 +43,19 @@ fn put_verdict(out: &mut [u8], verdict: Verdict) -> usize
 }
 
 // Puts the line of an answer and gives its length.
-fn put_answer(out: &mut [u8], answer: Answer) -> usize
-    requires { (most_line ≤ length out.old) × Small answer }
+fn put_answer(out: &mut [u8], answer: Result<Verdict, Refusal>) -> usize
+    requires { (most_line ≤ length out.old) × IfOk answer SmallVerdict }
     ensures { (Put out.old out.new 0 result (line_text answer)) × (result ≤ most_line) }
 {
     match answer {
-        Answer::Refused(number) => put_refused(out, number),
-        Answer::Checked(verdict) => put_verdict(out, verdict),
+        Ok(verdict) => put_verdict(out, verdict),
+        Err(refusal) => put_refused(out, refusal.number()),
     }
 }
 
 // The check's answer to the program's input.
-fn answer_for(input: &[u8]) -> Answer
-    ensures { (result ≡ answer_for input.now) × Small result }
+fn answer_for(input: &[u8]) -> Result<Verdict, Refusal>
+    ensures { (result ≡ answer_for input.now) × IfOk result SmallVerdict }
 {
     let size = input.len();
     let end = split(input);
@@ -71,8 +72,8 @@ fn blank() -> [u8; MOST_LINE]
 }
 
 // The line of an answer.
-pub fn answer_line(answer: Answer) -> Line
-    requires { Small answer }
+pub fn answer_line(answer: Result<Verdict, Refusal>) -> Line
+    requires { IfOk answer SmallVerdict }
     ensures { (result ≡ line_of (line_text answer)) × (result.length ≤ length result.bytes) }
 {
     let mut bytes = blank();
@@ -84,6 +85,5 @@ pub fn answer_line(answer: Answer) -> Line
 pub fn check_line(input: &[u8]) -> Line
     ensures { (result ≡ line_of (line_for input.now)) × (result.length ≤ length result.bytes) }
 {
-    let answer = answer_for(input);
-    answer_line(answer)
+    answer_line(answer_for(input))
 }

@@ -2,9 +2,10 @@
 ghost use Rattle.std.specs.Prelude.{◌≡◌, ◌+◌, ◌<◌, ◌≤◌, length, drop, replicate};
 ghost use Rattle.printed.specs.Page.{glyph_of, row_byte, table_text, text_of, page_of, answer_to, printed_for};
 
-use checker::table::{TableAnswer, table};
+use checker::table::table;
 use lines::input::{byte_at, lent_words, split, word_at};
 use lines::lines::put_refused;
+use stored::refusal::Refusal;
 
 // A text and its length.
 #[derive(Drop)]
@@ -44,31 +45,28 @@ fn row_lines(rows: &[u64; 64]) -> [u8; 1088]
     ensures { result ≡ table_text rows.now }
 {
     let mut bytes = blank();
-    let mut k = 0;
-    while k < 1088 {
-        let b = k / 17;
-        bytes[k] = row_byte(rows[b], k % 17);
-        k += 1;
+    for k in 0..1088 {
+        bytes[k] = row_byte(rows[k / 17], k % 17);
     }
     bytes
 }
 
-// The page of an answer: the number of its refusal, or 0, and its rows.
-fn page_of(number: usize, rows: &[u64; 64]) -> Page
-    requires { number < 100 }
-    ensures value { result ≡ page_of (text_of number rows.now) }
+// The page of an answer.
+fn page_of(answer: Result<[u64; 64], Refusal>) -> Page
+    ensures value { result ≡ page_of (text_of answer) }
     ensures within { result.length ≤ length result.bytes }
 {
-    if number == 0 {
-        let lines = row_lines(rows);
-        return Page {
-            bytes: lines,
+    match answer {
+        Ok(rows) => Page {
+            bytes: row_lines(&rows),
             length: 1088,
-        };
+        },
+        Err(refusal) => {
+            let mut bytes = blank();
+            let length = put_refused(&mut bytes, refusal.number());
+            Page { bytes, length }
+        }
     }
-    let mut bytes = blank();
-    let length = put_refused(&mut bytes, number);
-    Page { bytes, length }
 }
 
 // Where the sheet starts: after five bytes, or with the input's end.
@@ -82,8 +80,8 @@ fn body_start(input: &[u8]) -> usize
 }
 
 // The table operation's answer to the program's input.
-fn answer_to(input: &[u8]) -> TableAnswer
-    ensures { (result ≡ answer_to input.now) × (result.refused < 100) }
+fn answer_to(input: &[u8]) -> Result<[u64; 64], Refusal>
+    ensures { result ≡ answer_to input.now }
 {
     let node = word_at(input, 0);
     let p0 = byte_at(input, 2);
@@ -104,8 +102,5 @@ fn answer_to(input: &[u8]) -> TableAnswer
 pub fn table_page(input: &[u8]) -> Page
     ensures { (result ≡ page_of (printed_for input.now)) × (result.length ≤ length result.bytes) }
 {
-    let answer = answer_to(input);
-    let number = answer.refused;
-    let rows = answer.rows;
-    page_of(number, &rows)
+    page_of(answer_to(input))
 }

@@ -1,26 +1,14 @@
 // What the board program writes: a line a minute.
-ghost use Rattle.std.specs.Prelude.{◌≡◌, ◌≤◌, length};
-ghost use Rattle.stored.specs.Sheet.{sheet_refusal};
-ghost use Rattle.board.specs.Board.{open_answer};
-ghost use Rattle.lines.specs.Lines.{refused_text};
+ghost use Rattle.std.specs.Prelude.{◌≡◌, ◌≤◌, length, IfErr};
 ghost use Rattle.printed.specs.Line.{line_text, line_of};
-ghost use Rattle.printed.specs.Wall.{minute_answer, minute_board};
+ghost use Rattle.printed.specs.Wall.{opening_of, minute_answer, minute_board};
 
 use crate::line::{Line, answer_line};
 use board::Board;
-use checker::check::Answer;
 use lines::input::{lent_words, word_at};
 
 // The bytes of the longest input that is a sheet by its length field.
 pub const HELD_SHEET: usize = 65537;
-
-// The board of a sheet; where it is refused, the refusal's number and line.
-#[derive(Drop)]
-pub struct Opening {
-    pub board: Board,
-    pub refused: usize,
-    pub line: Line,
-}
 
 // The board after a minute, and the line that is written for it.
 #[derive(Drop)]
@@ -29,19 +17,14 @@ pub struct Minute {
     pub line: Line,
 }
 
-// What the board program does with its sheet.
-pub fn open_line(sheet: &[u8]) -> Opening
-    ensures board_value { (result.board ≡ (open_answer sheet.now).board) × (result.refused ≡ sheet_refusal sheet.now) }
-    ensures line_value { (result.line ≡ line_of (refused_text (sheet_refusal sheet.now))) × (result.line.length ≤ length result.line.bytes) }
+// What the board program does with its sheet: its board, or the line of its refusal.
+pub fn open_line(sheet: &[u8]) -> Result<Board, Line>
+    ensures value { result ≡ opening_of sheet.now }
+    ensures within { IfErr result (λ line. line.length ≤ length line.bytes) }
 {
-    let opened = Board::open(sheet);
-    let refused = opened.refused;
-    let board = opened.board;
-    let line = answer_line(Answer::Refused(refused));
-    Opening {
-        board,
-        refused,
-        line,
+    match Board::open(sheet) {
+        Ok(board) => Ok(board),
+        Err(refusal) => Err(answer_line(Err(refusal))),
     }
 }
 
@@ -54,7 +37,6 @@ pub fn minute_line(board: Board, minute: &[u8]) -> Minute
     let mut words = lent_words();
     let fed = board.feed(cycle, &mut words);
     let next = fed.board;
-    let answer = fed.answer;
-    let line = answer_line(answer);
+    let line = answer_line(fed.answer);
     Minute { board: next, line }
 }

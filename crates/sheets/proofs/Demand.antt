@@ -16,12 +16,13 @@ use Rattle.traces.specs.Trace.{cycles_of, trace_refusal}
 use Rattle.stored.specs.Emitted.{emitted_true}
 use Rattle.stored.specs.Tree.{pick}
 use Rattle.traces.proofs.Accepted.{trace_opened, cycles_count}
-use Rattle.checker.specs.declared.check.Answer.{Answer}
-use Rattle.checker.specs.declared.check.Answer.TheVariants.{Checked}
+use Rattle.std.specs.Prelude.{Result, Ok}
+use Rattle.stored.specs.declared.refusal.Refusal.{Refusal}
+use Rattle.stored.specs.Refusal.{answered}
+use Rattle.checker.specs.declared.check.Verdict.{Verdict}
 use Rattle.checker.specs.Table.{or_else, words_refusal}
 use Rattle.checker.proofs.Bounds.{or_zero}
 use Rattle.checker.specs.Check.{told, told_whole, check_refusal, check_answer}
-use Rattle.stored.specs.declared.WriteAnswer.{WriteAnswer}
 use Rattle.stored.specs.Output.{written_length}
 use Rattle.translator.specs.Refusal.{translate_refusal}
 use Rattle.translator.specs.Translated.{Translated}
@@ -46,8 +47,8 @@ some_cycle s t words h =
     let o = trace_opened (header_of s).signals t (or_zero (trace_refusal (header_of s).signals t) (words_refusal words) rest).0 in
     omega (arith, o.some_cycles, cycles_count t)
 
-verdict_told : (s t words : List ℕ) (v : Answer) → v ≡ check_answer s t words → check_refusal s t words ≡ 0 → v ≡ Checked (told_whole (verdict (clauses_of s) (cycles_of t)))
-unfolding check_answer pick
+verdict_told : (s t words : List ℕ) (v : Result Verdict Refusal) → v ≡ check_answer s t words → check_refusal s t words ≡ 0 → v ≡ Ok (told_whole (verdict (clauses_of s) (cycles_of t)))
+unfolding check_answer answered pick
 verdict_told s t words v e z = e ∙ rw z
 
 required : (s : List ℕ) (σ : Trace) → requirement_of s σ ≡ requirement (clauses_of s) σ
@@ -55,7 +56,7 @@ unfolding requirement_of
 required s σ = refl
 
 -- the joint claim, for every sheet, every trace, the bytes written and the check's verdict
-pub demand : (s x y : List ℕ) (r : WriteAnswer) (t words : List ℕ) (v : Answer) → Translated s x y r → v ≡ check_answer s t words
+pub demand : (s x y : List ℕ) (r : Result ℕ Refusal) (t words : List ℕ) (v : Result Verdict Refusal) → Translated s x y r → v ≡ check_answer s t words
     → Joint s y r (length x) t words v
 unfolding written says_broken says_other
 demand s x y r t words v w e =

@@ -1,15 +1,14 @@
 -- Document 01, demand 3, as one claim over every accepted sheet, every trace, the bytes written and the check's verdict.
-use Rattle.std.specs.Prelude.{ℕ, ◌≤◌, ◌<◌, Bool, true, false, not, List, ◌≡◌, length, take}
+use Rattle.std.specs.Prelude.{ℕ, ◌≤◌, ◌<◌, Bool, true, false, not, List, ◌≡◌, length, take, Result, Ok, Err}
 use Rattle.semantics.specs.Proposition.{Trace}
 use Rattle.stored.specs.Sheet.{header_of, requirement_of}
 use Rattle.traces.specs.Trace.{cycles_of}
 use Rattle.stored.specs.Emitted.{is_emitted, emitted_true}
-use Rattle.checker.specs.declared.check.Answer.{Answer}
-use Rattle.checker.specs.declared.check.Answer.TheVariants.{Refused, Checked}
+use Rattle.stored.specs.declared.refusal.Refusal.{Refusal}
+use Rattle.checker.specs.declared.check.Verdict.{Verdict}
 use Rattle.checker.specs.declared.check.Finding.{Finding}
 use Rattle.checker.specs.declared.check.Finding.TheVariants.{Excused, Broken, Holds}
 use Rattle.checker.specs.Check.{check_refusal}
-use Rattle.stored.specs.declared.WriteAnswer.{WriteAnswer}
 use Rattle.stored.specs.Output.{written_length}
 use Rattle.translator.specs.Refusal.{translate_refusal}
 use Rattle.plans.specs.Bound.{node_bound}
@@ -20,21 +19,21 @@ is_broken (Broken place) = true
 is_broken Holds = false
 
 -- the check says Broken; it says another verdict. Advice beside it says nothing of the requirement.
-unfoldable pub says_broken : Answer → Bool
-says_broken (Refused number) = false
-says_broken (Checked v) = is_broken v.finding
+unfoldable pub says_broken : Result Verdict Refusal → Bool
+says_broken (Err refusal) = false
+says_broken (Ok v) = is_broken v.finding
 
-unfoldable pub says_other : Answer → Bool
-says_other (Refused number) = false
-says_other (Checked v) = not (is_broken v.finding)
+unfoldable pub says_other : Result Verdict Refusal → Bool
+says_other (Err refusal) = false
+says_other (Ok v) = not (is_broken v.finding)
 
 -- the bytes that were written: the formula is what they say
-unfoldable pub written : List ℕ → WriteAnswer → List ℕ
+unfoldable pub written : List ℕ → Result ℕ Refusal → List ℕ
 written y r = take (written_length r) y
 
 -- Sheet s was translated into y with answer r, and checked on trace t with answer v; `size` bytes and `words` were lent. No number of the
 -- translator's applies.
-pub record Joint (s y : List ℕ) (r : WriteAnswer) (size : ℕ) (t words : List ℕ) (v : Answer) : Type 0 where
+pub record Joint (s y : List ℕ) (r : Result ℕ Refusal) (size : ℕ) (t words : List ℕ) (v : Result Verdict Refusal) : Type 0 where
   -- the written bytes are a kind 2 sheet of the same signals and names, within the bound
   pub form : translate_refusal s size ≡ 0 → is_emitted (written y r) ≡ true
   pub signals : translate_refusal s size ≡ 0 → (header_of (written y r)).signals ≡ (header_of s).signals

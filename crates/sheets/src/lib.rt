@@ -7,15 +7,15 @@ ghost use Rattle.checker.specs.Table.{words_after};
 ghost use Rattle.translator.specs.Translated.{Translated};
 ghost use Rattle.sheets.specs.Claim.{Joint};
 
-use checker::check::{Answer, check};
-use stored::WriteAnswer;
+use checker::check::{Verdict, check};
+use stored::refusal::Refusal;
 use translator::translate;
 
 // What the translator and the check answered.
 #[derive(Drop)]
 pub struct Both {
-    pub formula: WriteAnswer,
-    pub verdict: Answer,
+    pub formula: Result<usize, Refusal>,
+    pub verdict: Result<Verdict, Refusal>,
 }
 
 // Translates a sheet into the lent bytes and checks it on a trace. That the two never part is the last promise.

@@ -16,16 +16,19 @@ use Rattle.semantics.specs.Reach.{within, fits, parts_fit, clause_fits, all_fit}
 use Rattle.stored.specs.declared.Node.{Node}
 use Rattle.stored.specs.declared.StoredClause.{StoredClause}
 use Rattle.stored.specs.declared.Header.{Header}
-use Rattle.stored.specs.declared.SheetAnswer.TheVariants.{Accepted, Refused}
+use Rattle.stored.specs.declared.refusal.Refusal.{Refusal}
 use Rattle.stored.specs.Bytes.{in_order}
 use Rattle.stored.specs.Node.{requirement_sorts, is_formula_node, node_right}
-use Rattle.stored.specs.Tree.{pick, formula_at}
+use Rattle.stored.specs.Tree.{formula_at}
+use Rattle.stored.specs.Refusal.{number_of}
+use Rattle.std.specs.Prelude.{Ok, Err}
 use Rattle.stored.specs.Clause.{last_role, parts_used, part_right, clause_right, part_named, clause_named, clause_right_at, clause_named_at, type_of, part_of, clause_of}
-use Rattle.stored.specs.Sheet.{header_of, node_part, clause_part, nodes_of, stored_of, counted, sized, nodes_right, operands_found, clauses_right, clauses_named, sheet_rules, sheet_refusal, sheet_answer, sheet_number, clause_in, clauses_of}
+use Rattle.stored.specs.Sheet.{header_of, node_part, clause_part, nodes_of, stored_of, counted, sized, nodes_right, operands_found, clauses_right, clauses_named, sheet_rules, sheet_refusal, sheet_answer, clause_in, clauses_of}
 use Rattle.semantics.proofs.Tests.{and_left, and_right, and_intro}
 use Rattle.stored.proofs.Rules.{every_at, lowest_kept, Lowest, lowest_law}
 use Rattle.stored.proofs.Tree.{Earlier, sort_below_lem}
 use Rattle.stored.proofs.Reach.{NodesKept, bit_listed}
+use Rattle.stored.proofs.Refusals.{of_value, of_refusal}
 
 -- the counts of an accepted sheet
 pub record Counts (h : Header) : Type 0 where
@@ -95,18 +98,11 @@ opened s e =
       clause_named_holds = every_at (header_of s).clauses _ r₉.0;
     }
 
-refused≢accepted : (n : ℕ) (h : Header) → Refused n ≡ Accepted h → ⊥
-refused≢accepted n h e = let z : ◌≡◌ {A = ℕ} 0 1 = cc in omega arith
+pub answer_accepted : (s : List ℕ) (h : Header) → sheet_answer s ≡ Ok h → (sheet_refusal s ≡ 0) × (header_of s ≡ h)
+unfolding sheet_answer
+answer_accepted s h e = of_value (sheet_refusal s) (header_of s) h e
 
-pub answer_accepted : (s : List ℕ) (h : Header) → sheet_answer s ≡ Accepted h → (sheet_refusal s ≡ 0) × (header_of s ≡ h)
-unfolding sheet_answer pick
-answer_accepted s h e = go (eqb (sheet_refusal s) 0) refl e
-  where
-    go : (b : Bool) → eqb (sheet_refusal s) 0 ≡ b → pick b (Accepted (header_of s)) (Refused (sheet_refusal s)) ≡ Accepted h → (sheet_refusal s ≡ 0) × (header_of s ≡ h)
-    go true p q = (eqb-true (sheet_refusal s) 0 p, (cc))
-    go false p q = absurd (refused≢accepted (sheet_refusal s) h q)
-
-pub open_answer_lem : (s : List ℕ) (h : Header) → sheet_answer s ≡ Accepted h → Opened s
+pub open_answer_lem : (s : List ℕ) (h : Header) → sheet_answer s ≡ Ok h → Opened s
 open_answer_lem s h e = opened s (answer_accepted s h e).0
 
 -- the sizes of an accepted sheet, by its answer's header
@@ -115,7 +111,7 @@ pub record Sizes (s : List ℕ) (h : Header) : Type 0 where
   pub clauses_most : h.clauses ≤ 8
   pub ends : length s ≡ clauses_end h.nodes h.clauses
 
-pub sizes : (s : List ℕ) (h : Header) → sheet_answer s ≡ Accepted h → Sizes s h
+pub sizes : (s : List ℕ) (h : Header) → sheet_answer s ≡ Ok h → Sizes s h
 sizes s h e =
     let o = open_answer_lem s h e in
     subst (Sizes s) (answer_accepted s h e).1
@@ -250,24 +246,6 @@ accepted_fits s o =
     all_fit_lem (header_of s).clauses (clause_in s)
     (λ k l. clause_fits_lem (nodes_of s) (header_of s).nodes (header_of s).names (stored_of s k) o.in_range.few_names (clauses_kept s o k l))
 
--- a refused sheet has the refusal's number
-pub answer_refused : (s : List ℕ) (k : ℕ) → sheet_answer s ≡ Refused k → (eqb (sheet_refusal s) 0 ≡ false) × (sheet_refusal s ≡ k)
-unfolding sheet_answer pick
-answer_refused s k e = go (eqb (sheet_refusal s) 0) refl e
-  where
-    go : (b : Bool) → eqb (sheet_refusal s) 0 ≡ b → pick b (Accepted (header_of s)) (Refused (sheet_refusal s)) ≡ Refused k → (eqb (sheet_refusal s) 0 ≡ false) × (sheet_refusal s ≡ k)
-    go true p q = absurd (let z : ◌≡◌ {A = ℕ} 0 1 = cc in omega arith)
-    go false p q = (p, (cc))
-
--- an answer's number is the refusal's
-pub sheet_number_lem : (s : List ℕ) → sheet_number (sheet_answer s) ≡ sheet_refusal s
-unfolding sheet_answer sheet_number pick
-sheet_number_lem s = go (eqb (sheet_refusal s) 0) refl
-  where
-    go : (b : Bool) → eqb (sheet_refusal s) 0 ≡ b → sheet_number (pick b (Accepted (header_of s)) (Refused (sheet_refusal s))) ≡ sheet_refusal s
-    go true e = sym (eqb-true (sheet_refusal s) 0 e)
-    go false e = refl
-
 -- whatever the bytes, the answer is none of the numbers or one of them, and the lowest that applies
 pub sheet_lowest : (s : List ℕ) → Lowest 1 (sheet_rules s) (sheet_refusal s)
 unfolding sheet_refusal
@@ -280,3 +258,8 @@ sheet_small s =
       | inl e ↦ omega arith
       | inr e ↦ omega (arith, e.1)
     ]
+
+-- a refused sheet has the refusal's number
+pub answer_refused : (s : List ℕ) (e : Refusal) → sheet_answer s ≡ Err e → number_of e ≡ sheet_refusal s
+unfolding sheet_answer
+answer_refused s e is = of_refusal (sheet_refusal s) (header_of s) e (let small = sheet_small s in omega arith) is

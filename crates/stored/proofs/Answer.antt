@@ -11,10 +11,12 @@ use Rattle.semantics.specs.Proposition.{bit}
 use Rattle.semantics.specs.Reach.{within}
 use Rattle.stored.specs.declared.Node.{Node}
 use Rattle.stored.specs.declared.StoredClause.{StoredClause}
-use Rattle.stored.specs.declared.SheetAnswer.TheVariants.{Accepted, Refused}
+use Rattle.std.specs.Prelude.{Ok, Err}
+use Rattle.stored.specs.declared.refusal.Refusal.TheVariants.{SheetNotFramed, UnknownSheetVersion, NotARequirement, CountOutOfRange, WrongSheetLength, InvalidNode, InvalidOperand, InvalidClause, UnlistedName}
 use Rattle.stored.specs.Bytes.{framed_from, every_below, lowest}
 use Rattle.stored.specs.Node.{requirement_sorts, is_formula_node, node_right}
 use Rattle.stored.specs.Tree.{pick, formula_at}
+use Rattle.stored.specs.Refusal.{refusals, refusal_numbered, answered}
 use Rattle.stored.specs.Reach.{joint, reach_at, reach_table, entry_of}
 use Rattle.stored.specs.Clause.{last_role, parts_used, part_right, clause_right, clause_right_at, part_named, clause_named, clause_named_at, part_covered, clause_covered, clause_covered_at}
 use Rattle.stored.specs.Sheet.{header_of, nodes_of, stored_of, framed, versioned, of_kind_one, counted, sized, nodes_right, operands_found, clauses_right, clauses_named, sheet_rules, sheet_refusal, sheet_answer}
@@ -41,44 +43,44 @@ unfolding framed_from
 framed_from_lem least s e = leb-true least (length s) (and_left (leb least (length s)) _ e)
 
 module _ (s : List ℕ) where
-  pub refused1 : framed s ≡ false → Refused 1 ≡ sheet_answer s
-  unfolding sheet_answer sheet_refusal sheet_rules lowest pick
+  pub refused1 : framed s ≡ false → Err SheetNotFramed ≡ sheet_answer s
+  unfolding sheet_answer answered refusal_numbered refusals sheet_refusal sheet_rules lowest pick
   refused1 e = rw e
 
-  pub refused2 : framed s ≡ true → versioned s ≡ false → Refused 2 ≡ sheet_answer s
-  unfolding sheet_answer sheet_refusal sheet_rules lowest pick
+  pub refused2 : framed s ≡ true → versioned s ≡ false → Err UnknownSheetVersion ≡ sheet_answer s
+  unfolding sheet_answer answered refusal_numbered refusals sheet_refusal sheet_rules lowest pick
   refused2 r₁ e = rw (r₁, e)
 
-  pub refused3 : framed s ≡ true → versioned s ≡ true → of_kind_one s ≡ false → Refused 3 ≡ sheet_answer s
-  unfolding sheet_answer sheet_refusal sheet_rules lowest pick
+  pub refused3 : framed s ≡ true → versioned s ≡ true → of_kind_one s ≡ false → Err NotARequirement ≡ sheet_answer s
+  unfolding sheet_answer answered refusal_numbered refusals sheet_refusal sheet_rules lowest pick
   refused3 r₁ r₂ e = rw (r₁, r₂, e)
 
-  pub refused4 : Framed s → counted (header_of s) ≡ false → Refused 4 ≡ sheet_answer s
-  unfolding sheet_answer sheet_refusal sheet_rules lowest pick
+  pub refused4 : Framed s → counted (header_of s) ≡ false → Err CountOutOfRange ≡ sheet_answer s
+  unfolding sheet_answer answered refusal_numbered refusals sheet_refusal sheet_rules lowest pick
   refused4 f e = rw (f.rule1, f.rule2, f.rule3, e)
 
-  pub refused5 : Framed s → counted (header_of s) ≡ true → sized s ≡ false → Refused 5 ≡ sheet_answer s
-  unfolding sheet_answer sheet_refusal sheet_rules lowest pick
+  pub refused5 : Framed s → counted (header_of s) ≡ true → sized s ≡ false → Err WrongSheetLength ≡ sheet_answer s
+  unfolding sheet_answer answered refusal_numbered refusals sheet_refusal sheet_rules lowest pick
   refused5 f r₄ e = rw (f.rule1, f.rule2, f.rule3, r₄, e)
 
-  pub refused6 : Sized s → nodes_right s ≡ false → Refused 6 ≡ sheet_answer s
-  unfolding sheet_answer sheet_refusal sheet_rules lowest pick
+  pub refused6 : Sized s → nodes_right s ≡ false → Err InvalidNode ≡ sheet_answer s
+  unfolding sheet_answer answered refusal_numbered refusals sheet_refusal sheet_rules lowest pick
   refused6 f e = rw (f.frame.rule1, f.frame.rule2, f.frame.rule3, f.rule4, f.rule5, e)
 
-  pub refused7 : Sized s → nodes_right s ≡ true → operands_found s ≡ false → Refused 7 ≡ sheet_answer s
-  unfolding sheet_answer sheet_refusal sheet_rules lowest pick
+  pub refused7 : Sized s → nodes_right s ≡ true → operands_found s ≡ false → Err InvalidOperand ≡ sheet_answer s
+  unfolding sheet_answer answered refusal_numbered refusals sheet_refusal sheet_rules lowest pick
   refused7 f r₆ e = rw (f.frame.rule1, f.frame.rule2, f.frame.rule3, f.rule4, f.rule5, r₆, e)
 
-  pub refused8 : Sized s → nodes_right s ≡ true → operands_found s ≡ true → clauses_right s ≡ false → Refused 8 ≡ sheet_answer s
-  unfolding sheet_answer sheet_refusal sheet_rules lowest pick
+  pub refused8 : Sized s → nodes_right s ≡ true → operands_found s ≡ true → clauses_right s ≡ false → Err InvalidClause ≡ sheet_answer s
+  unfolding sheet_answer answered refusal_numbered refusals sheet_refusal sheet_rules lowest pick
   refused8 f r₆ r₇ e = rw (f.frame.rule1, f.frame.rule2, f.frame.rule3, f.rule4, f.rule5, r₆, r₇, e)
 
-  pub refused9 : Sized s → nodes_right s ≡ true → operands_found s ≡ true → clauses_right s ≡ true → clauses_named s ≡ false → Refused 9 ≡ sheet_answer s
-  unfolding sheet_answer sheet_refusal sheet_rules lowest pick
+  pub refused9 : Sized s → nodes_right s ≡ true → operands_found s ≡ true → clauses_right s ≡ true → clauses_named s ≡ false → Err UnlistedName ≡ sheet_answer s
+  unfolding sheet_answer answered refusal_numbered refusals sheet_refusal sheet_rules lowest pick
   refused9 f r₆ r₇ r₈ e = rw (f.frame.rule1, f.frame.rule2, f.frame.rule3, f.rule4, f.rule5, r₆, r₇, r₈, e)
 
-  pub accepted : Sized s → nodes_right s ≡ true → operands_found s ≡ true → clauses_right s ≡ true → clauses_named s ≡ true → Accepted (header_of s) ≡ sheet_answer s
-  unfolding sheet_answer sheet_refusal sheet_rules lowest pick
+  pub accepted : Sized s → nodes_right s ≡ true → operands_found s ≡ true → clauses_right s ≡ true → clauses_named s ≡ true → Ok (header_of s) ≡ sheet_answer s
+  unfolding sheet_answer answered refusal_numbered refusals sheet_refusal sheet_rules lowest pick
   accepted f r₆ r₇ r₈ e = rw (f.frame.rule1, f.frame.rule2, f.frame.rule3, f.rule4, f.rule5, r₆, r₇, r₈, e)
 
   pub framed_long : framed s ≡ true → 9 ≤ length s

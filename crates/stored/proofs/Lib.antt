@@ -6,6 +6,7 @@ pub mod Tree
 pub mod Reach
 pub mod NameSets
 pub mod Roles
+pub mod Refusals
 pub mod Accepted
 pub mod Answer
 pub mod Written

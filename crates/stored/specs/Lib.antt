@@ -5,6 +5,7 @@ pub mod Node
 pub mod Tree
 pub mod Reach
 pub mod Clause
+pub mod Refusal
 pub mod Sheet
 pub mod Written
 pub mod Output

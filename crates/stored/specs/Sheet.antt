@@ -1,18 +1,17 @@
 -- Document 01, "The stored sheet" and refusals 1 to 9.
-use Rattle.std.specs.Prelude.{ℕ, Bool, ◌&&◌, List, [], ◌∷◌, leb, eqb, length, get_or}
+use Rattle.std.specs.Prelude.{ℕ, Bool, ◌&&◌, List, [], ◌∷◌, leb, eqb, length, get_or, Result}
 use Rattle.semantics.specs.Proposition.{Trace}
 use Rattle.semantics.specs.Clause.{Clause}
 use Rattle.semantics.specs.Verdict.{requirement}
 use Rattle.stored.specs.declared.Node.{Node}
 use Rattle.stored.specs.declared.StoredClause.{StoredClause}
 use Rattle.stored.specs.declared.Header.{Header}
-use Rattle.stored.specs.declared.SheetAnswer.{SheetAnswer}
-use Rattle.stored.specs.declared.SheetAnswer.TheVariants.{Accepted, Refused}
+use Rattle.stored.specs.declared.refusal.Refusal.{Refusal}
 use Rattle.stored.specs.Bytes.{word, framed_from, part, every_below, in_order, lowest}
 use Rattle.stored.specs.Layout.{requirement_kind, nodes_start, nodes_end, clauses_end, most_signals, most_names, most_nodes, most_clauses}
 use Rattle.stored.specs.Node.{node_at, requirement_sorts, node_right, operands_right}
-use Rattle.stored.specs.Tree.{pick}
 use Rattle.stored.specs.Clause.{stored_at, clause_right_at, clause_named_at, clause_of}
+use Rattle.stored.specs.Refusal.{answered}
 
 unfoldable pub header_of : List ℕ → Header
 header_of s = record { signals = get_or s 4 0; names = get_or s 5 0; nodes = word s 6; clauses = get_or s 8 0 }
@@ -86,14 +85,9 @@ sheet_rules s =
 unfoldable pub sheet_refusal : List ℕ → ℕ
 sheet_refusal s = lowest 1 (sheet_rules s)
 
--- what the cases of an answer say: Refused has the refusal's number, Accepted the header of a sheet to which no number applies
-unfoldable pub sheet_answer : List ℕ → SheetAnswer
-sheet_answer s = pick (eqb (sheet_refusal s) 0) (Accepted (header_of s)) (Refused (sheet_refusal s))
-
--- an answer's number, 0 for Accepted
-unfoldable pub sheet_number : SheetAnswer → ℕ
-sheet_number (Accepted h) = 0
-sheet_number (Refused number) = number
+-- the header of a sheet to which no number applies, or the refusal with the lowest number that does
+unfoldable pub sheet_answer : List ℕ → Result Header Refusal
+sheet_answer s = answered (sheet_refusal s) (header_of s)
 
 -- the clauses of a sheet in order, and its requirement
 unfoldable pub clause_in : List ℕ → ℕ → Clause

@@ -7,6 +7,7 @@ pub mod layout;
 pub mod masks;
 pub mod nodes;
 pub mod ops;
+pub mod refusal;
 pub mod sheet;
 pub mod writer;
 
@@ -39,18 +40,4 @@ pub struct Header {
     pub names: usize,
     pub nodes: usize,
     pub clauses: usize,
-}
-
-// An accepted sheet's header, or the number of the refusal.
-#[derive(Drop)]
-pub enum SheetAnswer {
-    Accepted(Header),
-    Refused(usize),
-}
-
-// The length of what was written into lent bytes, or the number of the refusal.
-#[derive(Drop)]
-pub enum WriteAnswer {
-    Written(usize),
-    Refused(usize),
 }

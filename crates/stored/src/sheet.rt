@@ -1,9 +1,10 @@
 // A sheet: its frame, its counts, and the order of its refusals.
 ghost use Rattle.std.specs.Prelude.{◌≡◌, ◌≤◌, length};
 ghost use Rattle.stored.specs.Layout.{nodes_start};
-ghost use Rattle.stored.specs.Sheet.{header_of, node_part, clause_part, counted, sheet_answer, sheet_number};
+ghost use Rattle.stored.specs.Sheet.{header_of, node_part, clause_part, counted, sheet_answer};
 
-use crate::{Header, SheetAnswer, bytes, clauses, layout, nodes};
+use crate::refusal::Refusal;
+use crate::{Header, bytes, clauses, layout, nodes};
 
 fn header(sheet: &[u8]) -> Header
     requires { nodes_start ≤ length sheet.now }
@@ -35,22 +36,22 @@ fn counts_ok(h: Header) -> bool
     signals & (names & (nodes & clauses))
 }
 
-// The header of a sheet, or the lowest number from 1 to 9 that applies to it.
-pub fn read_sheet(sheet: &[u8]) -> SheetAnswer
+// The header of a sheet, or the refusal with the lowest number from 1 to 9 that applies to it.
+pub fn read_sheet(sheet: &[u8]) -> Result<Header, Refusal>
     ensures { result ≡ sheet_answer sheet.now }
 {
     if !bytes::is_framed(sheet, layout::NODES_START) {
-        return SheetAnswer::Refused(1);
+        return Err(Refusal::SheetNotFramed);
     }
     if bytes::byte(sheet, 2) != 1 {
-        return SheetAnswer::Refused(2);
+        return Err(Refusal::UnknownSheetVersion);
     }
     if bytes::byte(sheet, 3) != layout::REQUIREMENT {
-        return SheetAnswer::Refused(3);
+        return Err(Refusal::NotARequirement);
     }
     let h = header(sheet);
     if !counts_ok(h) {
-        return SheetAnswer::Refused(4);
+        return Err(Refusal::CountOutOfRange);
     }
     let m = h.names;
     let n = h.nodes;
@@ -58,28 +59,28 @@ pub fn read_sheet(sheet: &[u8]) -> SheetAnswer
     let middle = layout::nodes_end(n);
     let end = layout::clauses_end(n, c);
     if sheet.len() != end {
-        return SheetAnswer::Refused(5);
+        return Err(Refusal::WrongSheetLength);
     }
     let node_part = &sheet[layout::NODES_START..middle];
     let clause_part = &sheet[middle..end];
     if !nodes::nodes_ok(node_part, n, h.signals, m) {
-        return SheetAnswer::Refused(6);
+        return Err(Refusal::InvalidNode);
     }
     if !nodes::operands_ok(node_part, n) {
-        return SheetAnswer::Refused(7);
+        return Err(Refusal::InvalidOperand);
     }
     if !clauses::clauses_ok(node_part, n, clause_part, c) {
-        return SheetAnswer::Refused(8);
+        return Err(Refusal::InvalidClause);
     }
     if !clauses::clauses_covered(node_part, n, m, clause_part, c) {
-        return SheetAnswer::Refused(9);
+        return Err(Refusal::UnlistedName);
     }
-    SheetAnswer::Accepted(h)
+    Ok(h)
 }
 
 // The node part of an accepted sheet.
 pub fn node_part(sheet: &[u8], h: Header) -> &[u8]
-    requires { sheet_answer sheet.now ≡ SheetAnswer.Accepted h }
+    requires { sheet_answer sheet.now ≡ Ok h }
     ensures { result.now ≡ node_part sheet.now }
 {
     let end = layout::nodes_end(h.nodes);
@@ -88,20 +89,10 @@ pub fn node_part(sheet: &[u8], h: Header) -> &[u8]
 
 // The clause part of an accepted sheet.
 pub fn clause_part(sheet: &[u8], h: Header) -> &[u8]
-    requires { sheet_answer sheet.now ≡ SheetAnswer.Accepted h }
+    requires { sheet_answer sheet.now ≡ Ok h }
     ensures { result.now ≡ clause_part sheet.now }
 {
     let start = layout::nodes_end(h.nodes);
     let end = layout::clauses_end(h.nodes, h.clauses);
     &sheet[start..end]
-}
-
-// An answer's number, 0 for an accepted sheet.
-pub fn sheet_number(answer: SheetAnswer) -> usize
-    ensures { result ≡ sheet_number answer }
-{
-    match answer {
-        SheetAnswer::Accepted(_) => 0,
-        SheetAnswer::Refused(number) => number,
-    }
 }

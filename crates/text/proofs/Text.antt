@@ -14,13 +14,16 @@ use Rattle.semantics.specs.Proposition.{Trace}
 use Rattle.semantics.specs.Clause.{Part}
 use Rattle.semantics.specs.Verdict.{requirement, verdict}
 use Rattle.semantics.proofs.Tests.{test}
-use Rattle.stored.specs.declared.SheetAnswer.{SheetAnswer}
-use Rattle.stored.specs.declared.WriteAnswer.{WriteAnswer}
-use Rattle.stored.specs.declared.WriteAnswer.TheVariants.{Written, Refused}
+use Rattle.std.specs.Prelude.{Result, Ok, Err}
+use Rattle.stored.specs.declared.Header.{Header}
+use Rattle.stored.specs.declared.refusal.Refusal.{Refusal}
+use Rattle.stored.specs.declared.refusal.Refusal.TheVariants.{ShortOutput, TooDeep, OutsideGrammar, TooLarge}
+use Rattle.stored.specs.Refusal.{number_of, last_number, refusals, refusal_numbered, answered}
+use Rattle.stored.proofs.Refusals.{refusal_applies, number_some, number_most, numbered_number, answered_value, answered_refusal, of_value, of_refusal}
 use Rattle.stored.specs.Layout.{clauses_end, least_output, most_nodes, most_clauses}
-use Rattle.stored.specs.Sheet.{nodes_of, clauses_of, requirement_of, sheet_refusal, sheet_answer, sheet_number}
+use Rattle.stored.specs.Sheet.{nodes_of, clauses_of, requirement_of, sheet_refusal, sheet_answer}
 use Rattle.stored.specs.Clause.{part_of}
-use Rattle.stored.proofs.Accepted.{opened, sheet_number_lem, sheet_small}
+use Rattle.stored.proofs.Accepted.{opened, sheet_small, answer_accepted, answer_refused}
 use Rattle.grammar.specs.Token.{tokens}
 use Rattle.grammar.specs.Tree.{TypedSheet}
 use Rattle.grammar.specs.Spelled.{ends_line, Says}
@@ -37,41 +40,56 @@ use Rattle.text.specs.declared.sheet.GotSheet.{GotSheet}
 use Rattle.text.specs.Parts.{Drawn, SheetRead, draft_refusal}
 use Rattle.text.specs.Text.{said_refusal, RefusedBy, WrittenAs, ReadText}
 
--- the number of the sheet that was put together at the front of y
-pub number_read : (s m : ℕ) (nodes clauses : Draft) (x y : List ℕ) (size number : ℕ) (answer : SheetAnswer)
-    → Assembled s m nodes clauses x y size → answer ≡ sheet_answer (take (size - 0) y) → number ≡ sheet_number answer
-    → number ≡ sheet_refusal (sheet_bytes s m nodes clauses)
-number_read s m nodes clauses x y size number answer put read e =
+-- the sheet that was put together at the front of y
+pub draft_read : (s m : ℕ) (nodes clauses : Draft) (x y : List ℕ) (size : ℕ) → Assembled s m nodes clauses x y size
+    → sheet_answer (take (size - 0) y) ≡ sheet_answer (sheet_bytes s m nodes clauses)
+draft_read s m nodes clauses x y size put =
     let all : size - 0 ≡ size = omega arith in
-    e ∙ ap sheet_number read ∙ sheet_number_lem (take (size - 0) y)
-    ∙ ap sheet_refusal (ap₂ (take {A = ℕ}) all put.bytes ∙ front_taken (sheet_bytes s m nodes clauses) x size put.size)
+    ap sheet_answer (ap₂ (take {A = ℕ}) all put.bytes ∙ front_taken (sheet_bytes s m nodes clauses) x size put.size)
 
 -- ---- the order of the refusals of what was read
 module _ (s m : ℕ) (nodes clauses : Draft) (lent : ℕ) where
-  pub many_nodes : most_nodes < nodes.count → 20 ≡ draft_refusal s m nodes clauses lent
-  unfolding draft_refusal
-  many_nodes h = rw (lt-ltb most_nodes nodes.count h)
+  abbrev Judged : Result (Unit {0}) Refusal → Type 0
+  Judged r = r ≡ answered (draft_refusal s m nodes clauses lent) tt
 
-  pub many_clauses : nodes.count ≤ most_nodes → most_clauses < clauses.count → 20 ≡ draft_refusal s m nodes clauses lent
-  unfolding draft_refusal
-  many_clauses h₁ h₂ = rw (le-ltb most_nodes nodes.count h₁, lt-ltb most_clauses clauses.count h₂)
+  pub many_nodes : most_nodes < nodes.count → Judged (Err TooLarge)
+  unfolding draft_refusal number_of
+  many_nodes h = answered_refusal (draft_refusal s m nodes clauses lent) tt TooLarge (rw (lt-ltb most_nodes nodes.count h))
 
-  module _ (h₁ : nodes.count ≤ most_nodes) (h₂ : clauses.count ≤ most_clauses) (number : ℕ)
-      (e : number ≡ sheet_refusal (sheet_bytes s m nodes clauses)) where
-    pub by_sheet : (number ≡ 0 → ⊥) → number ≡ draft_refusal s m nodes clauses lent
+  pub many_clauses : nodes.count ≤ most_nodes → most_clauses < clauses.count → Judged (Err TooLarge)
+  unfolding draft_refusal number_of
+  many_clauses h₁ h₂ =
+      answered_refusal (draft_refusal s m nodes clauses lent) tt TooLarge (rw (le-ltb most_nodes nodes.count h₁, lt-ltb most_clauses clauses.count h₂))
+
+  module _ (h₁ : nodes.count ≤ most_nodes) (h₂ : clauses.count ≤ most_clauses) where
+    pub by_sheet : (e : Refusal) → sheet_answer (sheet_bytes s m nodes clauses) ≡ Err e → Judged (Err e)
     unfolding draft_refusal
-    by_sheet h =
-        rw (le-ltb most_nodes nodes.count h₁, le-ltb most_clauses clauses.count h₂, ← e, ne_eqb number 0 h)
+    by_sheet e is =
+        let number = answer_refused (sheet_bytes s m nodes clauses) e is in
+        answered_refusal (draft_refusal s m nodes clauses lent) tt e
+        (number ∙ rw (le-ltb most_nodes nodes.count h₁, le-ltb most_clauses clauses.count h₂, refusal_applies e number))
 
-    pub by_output : number ≡ 0 → lent < least_output → 14 ≡ draft_refusal s m nodes clauses lent
-    unfolding draft_refusal
-    by_output h l =
-        rw (le-ltb most_nodes nodes.count h₁, le-ltb most_clauses clauses.count h₂, ← e, eq-eqb number 0 h, lt-ltb lent least_output l)
+    module _ (h : Header) (is : sheet_answer (sheet_bytes s m nodes clauses) ≡ Ok h) where
+      pub by_output : lent < least_output → Judged (Err ShortOutput)
+      unfolding draft_refusal number_of
+      by_output l =
+          answered_refusal (draft_refusal s m nodes clauses lent) tt ShortOutput
+          (rw (le-ltb most_nodes nodes.count h₁, le-ltb most_clauses clauses.count h₂, (answer_accepted (sheet_bytes s m nodes clauses) h is).0, lt-ltb lent least_output l))
 
-    pub by_none : number ≡ 0 → least_output ≤ lent → 0 ≡ draft_refusal s m nodes clauses lent
-    unfolding draft_refusal
-    by_none h l =
-        rw (le-ltb most_nodes nodes.count h₁, le-ltb most_clauses clauses.count h₂, ← e, eq-eqb number 0 h, le-ltb lent least_output l)
+      pub by_none : least_output ≤ lent → Judged (Ok tt)
+      unfolding draft_refusal
+      by_none l =
+          answered_value (draft_refusal s m nodes clauses lent) tt
+          (rw (le-ltb most_nodes nodes.count h₁, le-ltb most_clauses clauses.count h₂, (answer_accepted (sheet_bytes s m nodes clauses) h is).0, le-ltb lent least_output l))
+
+small_judged : (many short : Bool) (bytes : List ℕ) → cond many 20 (cond (eqb (sheet_refusal bytes) 0) (cond short 14 0) (sheet_refusal bytes)) ≤ last_number
+small_judged many short bytes = go many (eqb (sheet_refusal bytes) 0) short (sheet_small bytes)
+  where
+    go : (many clean short : Bool) → sheet_refusal bytes < 10 → cond many 20 (cond clean (cond short 14 0) (sheet_refusal bytes)) ≤ last_number
+    go true clean short h = omega arith
+    go false true true h = omega arith
+    go false true false h = omega arith
+    go false false short h = omega arith
 
 -- what 0 leaves
 pub record Free (n c lent : ℕ) : Type 0 where
@@ -99,6 +117,11 @@ nothing_refused s m nodes n clauses c lent h =
           few_clauses = ltb-false most_clauses c (or_false_right (ltb most_nodes n) (ltb most_clauses c) e₁);
           room = ltb-false lent least_output e₃;
         }
+
+draft_small : (s m : ℕ) (nodes clauses : Draft) (lent : ℕ) → draft_refusal s m nodes clauses lent ≤ last_number
+unfolding draft_refusal
+draft_small s m nodes clauses lent =
+    small_judged (ltb most_nodes nodes.count || ltb most_clauses clauses.count) (ltb lent least_output) (sheet_bytes s m nodes clauses)
 
 -- ---- what was drawn from empty areas
 drawn_empty : Drawn empty (replicate 384 0) 0 (replicate 88 0) 0
@@ -129,11 +152,12 @@ module _ (t : TypedSheet) (nodes : List ℕ) (n : ℕ) (clauses : List ℕ) (c :
 
 -- ---- the cases of an answer
 module _ (text x : List ℕ) where
-  pub read_deep : (deep : Bool) → deep ≡ too_deep text → deep ≡ true → ReadText text x x (Refused 18)
+  pub read_deep : (deep : Bool) → deep ≡ too_deep text → deep ≡ true → ReadText text x x (Err TooDeep)
+  unfolding refusal_numbered refusals
   read_deep deep e h =
       let yes-deep : too_deep text ≡ true = sym e ∙ h in
       record {
-        deep = λ _. record { number_given = refl; unchanged = refl };
+        deep = λ _. record { refusal_given = refl; unchanged = refl };
         outside = λ shallow. absurd (true≢false (sym yes-deep ∙ shallow));
         refused = λ shallow. absurd (true≢false (sym yes-deep ∙ shallow));
         written = λ shallow. absurd (true≢false (sym yes-deep ∙ shallow));
@@ -143,16 +167,17 @@ module _ (text x : List ℕ) where
     shallow : too_deep text ≡ false
     shallow = sym e ∙ h
 
-    outside_grammar : ((t : TypedSheet) → Says text t → ⊥) → ReadText text x x (Refused 19)
+    outside_grammar : ((t : TypedSheet) → Says text t → ⊥) → ReadText text x x (Err OutsideGrammar)
+    unfolding refusal_numbered refusals
     outside_grammar nothing =
         record {
           deep = λ d. absurd (true≢false (sym d ∙ shallow));
-          outside = λ _ _. record { number_given = refl; unchanged = refl };
+          outside = λ _ _. record { refusal_given = refl; unchanged = refl };
           refused = λ _ t says. absurd (nothing t says);
           written = λ _ t says. absurd (nothing t says);
         }
 
-    pub unended_outside : (ends : Bool) → ends ≡ ends_line text → ends ≡ false → ReadText text x x (Refused 19)
+    pub unended_outside : (ends : Bool) → ends ≡ ends_line text → ends ≡ false → ReadText text x x (Err OutsideGrammar)
     unended_outside ends e₂ h₂ = outside_grammar (λ t says. true≢false (sym says.ended ∙ sym e₂ ∙ h₂))
 
     -- the one tree of the text
@@ -163,22 +188,22 @@ module _ (text x : List ℕ) where
       same_tree : (t' : TypedSheet) → Says text t' → t ≡ t'
       same_tree t' says = unique text t t' said_tree says
 
-      read_refused : (number : ℕ) → number ≡ said_refusal t (length x) → (number ≡ 0 → ⊥) → ReadText text x x (Refused number)
-      read_refused number is Some-number =
+      read_refused : (e : Refusal) → number_of e ≡ said_refusal t (length x) → ReadText text x x (Err e)
+      read_refused e is =
+          let some = number_some e in
+          let at : (t' : TypedSheet) → Says text t' → number_of e ≡ said_refusal t' (length x)
+          = λ t' says. is ∙ ap (λ (t : TypedSheet). said_refusal t (length x)) (same_tree t' says)
+          in
           record {
             deep = λ d. absurd (true≢false (sym d ∙ shallow));
             outside = λ _ nothing. absurd (nothing t said_tree);
             refused = λ _ t' says _.
-                record {
-                  number_given = ap Refused (is ∙ ap (λ (t : TypedSheet). said_refusal t (length x)) (same_tree t' says));
-                  unchanged = refl;
-                };
-            written = λ _ t' says free.
-                absurd (Some-number (is ∙ ap (λ (t : TypedSheet). said_refusal t (length x)) (same_tree t' says) ∙ free));
+                record { refusal_given = ap Err (sym (numbered_number e) ∙ ap refusal_numbered (at t' says)); unchanged = refl };
+            written = λ _ t' says free. absurd (let number = at t' says in omega arith);
           }
 
       read_written : (y : List ℕ) (long : ℕ) → said_refusal t (length x) ≡ 0 → y ≡ front_of (typed_bytes t) x → long ≡ length (typed_bytes t)
-          → ReadText text x y (Written long)
+          → ReadText text x y (Ok long)
       read_written y long free front is =
           record {
             deep = λ d. absurd (true≢false (sym d ∙ shallow));
@@ -187,7 +212,7 @@ module _ (text x : List ℕ) where
                 absurd (Some-number (sym (ap (λ (t : TypedSheet). said_refusal t (length x)) (same_tree t' says)) ∙ free));
             written = λ _ t' says _.
                 record {
-                  length_given = ap Written (is ∙ ap (λ (t : TypedSheet). length (typed_bytes t)) (same_tree t' says));
+                  length_given = ap Ok (is ∙ ap (λ (t : TypedSheet). length (typed_bytes t)) (same_tree t' says));
                   in_front = front ∙ ap (λ (t : TypedSheet). front_of (typed_bytes t) x) (same_tree t' says);
                 };
           }
@@ -195,7 +220,7 @@ module _ (text x : List ℕ) where
     -- what the code read into the areas, which were empty
     module _ (a b nodes clauses : List ℕ) (r : GotSheet) (a-empty : a ≡ replicate 384 0) (b-empty : b ≡ replicate 88 0)
         (read : SheetRead text a b nodes clauses r) where
-      pub unread_outside : r.ok ≡ false → ReadText text x x (Refused 19)
+      pub unread_outside : r.ok ≡ false → ReadText text x x (Err OutsideGrammar)
       unread_outside bad = outside_grammar (outside_unread text shallow (read.fails bad))
 
       module _ (ends : Bool) (e₂ : ends ≡ ends_line text) (h₂ : ends ≡ true) (good : r.ok ≡ true) where
@@ -216,28 +241,26 @@ module _ (text x : List ℕ) where
             (read.took good).signals_said (read.took good).names_said
             ∙ refusal_same t nodes r.count clauses r.many drawn (length x)
 
-        module _ (number : ℕ) (is : number ≡ draft_refusal r.signals r.names (draft nodes r.count) (draft clauses r.many) (length x)) where
-          pub read_by_number : (number ≡ 0 → ⊥) → ReadText text x x (Refused number)
-          unfolding t
-          read_by_number Some-number = read_refused ended t (read.took good).said number (is ∙ number_same) Some-number
+        pub read_judged : (e : Refusal) → answered {A = Unit {0}} (draft_refusal r.signals r.names (draft nodes r.count) (draft clauses r.many) (length x)) tt ≡ Err e → ReadText text x x (Err e)
+        unfolding t
+        read_judged e is =
+            read_refused ended t (read.took good).said e
+            (of_refusal _ tt e (draft_small r.signals r.names (draft nodes r.count) (draft clauses r.many) (length x)) is ∙ number_same)
 
-          pub read_free : number ≡ 0 → Free r.count r.many (length x)
-          read_free zero_number =
-              nothing_refused r.signals r.names nodes r.count clauses r.many (length x) (sym is ∙ zero_number)
-
-          pub read_whole : number ≡ 0 → (y : List ℕ) (long : ℕ)
-              → Assembled r.signals r.names (draft nodes r.count) (draft clauses r.many) x y long
-              → ReadText text x y (Written long)
-          unfolding t
-          read_whole zero_number y long put =
-              let free = read_free zero_number in
-              let same =
-              ap₂ (λ (s m : ℕ). sheet_bytes s m (draft nodes r.count) (draft clauses r.many))
-              (read.took good).signals_said (read.took good).names_said
-              ∙ bytes_same t nodes r.count clauses r.many drawn (length x) free.few_nodes
-              in
-              read_written ended t (read.took good).said y long (sym number_same ∙ sym is ∙ zero_number)
-              (put.bytes ∙ ap (λ (l : List ℕ). front_of l x) same) (put.size ∙ ap length same)
+        pub read_whole : (y : List ℕ) (long : ℕ) → answered {A = Unit {0}} (draft_refusal r.signals r.names (draft nodes r.count) (draft clauses r.many) (length x)) tt ≡ Ok tt
+            → Assembled r.signals r.names (draft nodes r.count) (draft clauses r.many) x y long
+            → ReadText text x y (Ok long)
+        unfolding t
+        read_whole y long is put =
+            let none = (of_value _ tt tt is).0 in
+            let free = nothing_refused r.signals r.names nodes r.count clauses r.many (length x) none in
+            let same =
+            ap₂ (λ (s m : ℕ). sheet_bytes s m (draft nodes r.count) (draft clauses r.many))
+            (read.took good).signals_said (read.took good).names_said
+            ∙ bytes_same t nodes r.count clauses r.many drawn (length x) free.few_nodes
+            in
+            read_written ended t (read.took good).said y long (sym number_same ∙ none)
+            (put.bytes ∙ ap (λ (l : List ℕ). front_of l x) same) (put.size ∙ ap length same)
 
 -- ---- one case applies to each text
 -- the one tree that the text says
@@ -272,13 +295,13 @@ zero_or_not : (n : ℕ) → (n ≡ 0) ⊎ (n ≡ 0 → ⊥)
 zero_or_not n = elim (test (eqb n 0)) [ inl e ↦ inl (eqb-true n 0 e) | inr e ↦ inr (eqb-false n 0 e) ]
 
 -- what is promised leaves no choice
-same_refusal : {number : ℕ} {x y y' : List ℕ} {r r' : WriteAnswer} → RefusedBy number x y r → RefusedBy number x y' r' → (r ≡ r') × (y ≡ y')
-same_refusal p q = (p.number_given ∙ sym q.number_given, p.unchanged ∙ sym q.unchanged)
+same_refusal : {number : ℕ} {x y y' : List ℕ} {r r' : Result ℕ Refusal} → RefusedBy number x y r → RefusedBy number x y' r' → (r ≡ r') × (y ≡ y')
+same_refusal p q = (p.refusal_given ∙ sym q.refusal_given, p.unchanged ∙ sym q.unchanged)
 
-same_writing : {t : TypedSheet} {x y y' : List ℕ} {r r' : WriteAnswer} → WrittenAs t x y r → WrittenAs t x y' r' → (r ≡ r') × (y ≡ y')
+same_writing : {t : TypedSheet} {x y y' : List ℕ} {r r' : Result ℕ Refusal} → WrittenAs t x y r → WrittenAs t x y' r' → (r ≡ r') × (y ≡ y')
 same_writing p q = (p.length_given ∙ sym q.length_given, p.in_front ∙ sym q.in_front)
 
-pub determined : (text x y y' : List ℕ) (r r' : WriteAnswer) → ReadText text x y r → ReadText text x y' r' → (r ≡ r') × (y ≡ y')
+pub determined : (text x y y' : List ℕ) (r r' : Result ℕ Refusal) → ReadText text x y r → ReadText text x y' r' → (r ≡ r') × (y ≡ y')
 determined text x y y' r r' p q = go (case_of text)
   where
     go : Case text → (r ≡ r') × (y ≡ y')
@@ -311,25 +334,16 @@ passed t lent h = go (too_many t) (eqb r 0) (ltb lent least_output) refl refl re
     go false true true e₁ e₂ e₃ h = absurd (omega arith)
     go false true false e₁ e₂ e₃ h = record { few = e₁; right = eqb-true r 0 e₂; room = ltb-false lent least_output e₃ }
 
-said_small : (t : TypedSheet) (lent : ℕ) → said_refusal t lent < 100
+said_small : (t : TypedSheet) (lent : ℕ) → said_refusal t lent ≤ last_number
 unfolding said_refusal
-said_small t lent = go (too_many t) (eqb r 0) (ltb lent least_output) (sheet_small (typed_bytes t))
-  where
-    r : ℕ
-    r = sheet_refusal (typed_bytes t)
-
-    go : (many clean short : Bool) → r < 10 → cond many 20 (cond clean (cond short 14 0) r) < 100
-    go true clean short h = omega arith
-    go false true true h = omega arith
-    go false true false h = omega arith
-    go false false short h = omega arith
+said_small t lent = small_judged (too_many t) (ltb lent least_output) (typed_bytes t)
 
 -- a number refuses, or a tree's bytes are written
-pub data Outcome (text x y : List ℕ) (r : WriteAnswer) : Type 0 where
-  by_number : (number : ℕ) → number < 100 → RefusedBy number x y r → Outcome text x y r
+pub data Outcome (text x y : List ℕ) (r : Result ℕ Refusal) : Type 0 where
+  by_number : (number : ℕ) → number ≤ last_number → RefusedBy number x y r → Outcome text x y r
   by_tree : (t : TypedSheet) → Says text t → Passed t (length x) → WrittenAs t x y r → Outcome text x y r
 
-pub outcome : (text x y : List ℕ) (r : WriteAnswer) → ReadText text x y r → Outcome text x y r
+pub outcome : (text x y : List ℕ) (r : Result ℕ Refusal) → ReadText text x y r → Outcome text x y r
 outcome text x y r p = go (case_of text)
   where
     go : Case text → Outcome text x y r
@@ -344,10 +358,10 @@ outcome text x y r p = go (case_of text)
               (p.refused shallow one.tree one.says number)
         ]
 
-not_written : {number size : ℕ} {x y : List ℕ} → RefusedBy number x y (Written size) → ⊥
-not_written q = let e = q.number_given in let z : ◌≡◌ {A = ℕ} 0 1 = cc in omega arith
+not_written : {number size : ℕ} {x y : List ℕ} → RefusedBy number x y (Ok size) → ⊥
+not_written q = let e = q.refusal_given in let z : ◌≡◌ {A = ℕ} 0 1 = cc in omega arith
 
-not_refused : {number : ℕ} {t : TypedSheet} {x y : List ℕ} → WrittenAs t x y (Refused number) → ⊥
+not_refused : {e : Refusal} {t : TypedSheet} {x y : List ℕ} → WrittenAs t x y (Err e) → ⊥
 not_refused w = let e = w.length_given in let z : ◌≡◌ {A = ℕ} 0 1 = cc in omega arith
 
 -- what is written fits, and the later bytes are as before
@@ -357,11 +371,11 @@ pub record Fits (x y : List ℕ) (size : ℕ) : Type 0 where
   pub room : least_output ≤ length x
   pub same_length : length y ≡ length x
 
-pub written_fits : (text x y : List ℕ) (size : ℕ) → ReadText text x y (Written size) → Fits x y size
+pub written_fits : (text x y : List ℕ) (size : ℕ) → ReadText text x y (Ok size) → Fits x y size
 unfolding front_of
-written_fits text x y size p = go (outcome text x y (Written size) p)
+written_fits text x y size p = go (outcome text x y (Ok size) p)
   where
-    go : Outcome text x y (Written size) → Fits x y size
+    go : Outcome text x y (Ok size) → Fits x y size
     go (by_number number small q) = absurd (not_written q)
     go (by_tree t says pass w) =
         let e = w.length_given in
@@ -379,12 +393,12 @@ written_fits text x y size p = go (outcome text x y (Written size) p)
               ∙ simp length-drop (omega (arith, few, pass.room));
         }
 
--- a refusal's number is small, and nothing lent is changed
-pub refused_small : (text x y : List ℕ) (number : ℕ) → ReadText text x y (Refused number) → (number < 100) × (y ≡ x)
-refused_small text x y number p = go (outcome text x y (Refused number) p)
+-- where it is refused nothing lent is changed
+pub refused_unchanged : (text x y : List ℕ) (e : Refusal) → ReadText text x y (Err e) → y ≡ x
+refused_unchanged text x y e p = go (outcome text x y (Err e) p)
   where
-    go : Outcome text x y (Refused number) → (number < 100) × (y ≡ x)
-    go (by_number k small q) = let e = q.number_given in let same : number ≡ k = cc in (omega arith, q.unchanged)
+    go : Outcome text x y (Err e) → y ≡ x
+    go (by_number k small q) = q.unchanged
     go (by_tree t says pass w) = absurd (not_refused w)
 
 -- ---- what is written means what the text means
@@ -412,15 +426,15 @@ meant_bytes text t lent says p =
       verdicts = λ unused σ. typed_verdict t p.few numbers unused σ;
     }
 
-pub meaning : (text x y : List ℕ) (size : ℕ) → ReadText text x y (Written size) → Meant text (take size y)
-meaning text x y size p = go (outcome text x y (Written size) p)
+pub meaning : (text x y : List ℕ) (size : ℕ) → ReadText text x y (Ok size) → Meant text (take size y)
+meaning text x y size p = go (outcome text x y (Ok size) p)
   where
-    front : (t : TypedSheet) → WrittenAs t x y (Written size) → typed_bytes t ≡ take size y
+    front : (t : TypedSheet) → WrittenAs t x y (Ok size) → typed_bytes t ≡ take size y
     front t w =
         let e = w.length_given in
         let long : size ≡ length (typed_bytes t) = cc in
         sym (ap (take size) w.in_front ∙ front_taken (typed_bytes t) x size long)
 
-    go : Outcome text x y (Written size) → Meant text (take size y)
+    go : Outcome text x y (Ok size) → Meant text (take size y)
     go (by_number number few q) = absurd (not_written q)
     go (by_tree t says pass w) = rw (← front t w) (meant_bytes text t (length x) says pass)

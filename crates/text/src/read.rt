@@ -1,7 +1,8 @@
 // Reads a typed sheet into a stored one.
 ghost use Rattle.std.specs.Prelude.{◌≡◌, ◌≤◌, ◌*◌, length, replicate};
 ghost use Rattle.stored.specs.Layout.{node_size, clause_size, clauses_end, most_nodes, most_clauses};
-ghost use Rattle.stored.specs.Sheet.{sheet_refusal};
+ghost use Rattle.stored.specs.Refusal.{answered};
+ghost use Rattle.stored.specs.Sheet.{sheet_answer};
 ghost use Rattle.typed.specs.Draft.{draft, sheet_bytes};
 ghost use Rattle.text.specs.Parts.{draft_refusal};
 ghost use Rattle.text.specs.Text.{ReadText};
@@ -9,8 +10,9 @@ ghost use Rattle.text.specs.Text.{ReadText};
 use crate::sheet::sheet;
 use lexer::brackets::too_deep;
 use lexer::ends_line;
-use stored::sheet::{read_sheet, sheet_number};
-use stored::{WriteAnswer, layout};
+use stored::refusal::Refusal;
+use stored::sheet::read_sheet;
+use stored::{Header, layout};
 use typed::draft::assemble;
 
 // The bytes of the most nodes, of the most clauses, and of a sheet that has both.
@@ -38,19 +40,25 @@ fn no_sheet() -> [u8; SHEET_BYTES]
     [0; SHEET_BYTES]
 }
 
-// The lowest of 1 to 9 that applies to the sheet of these nodes and clauses, or 0.
-fn sheet_refusal(s: usize, m: usize, nodes: &[u8], n: usize, clauses: &[u8], c: usize) -> usize
+// Reads the sheet of these nodes and clauses.
+fn read_draft(
+    s: usize,
+    m: usize,
+    nodes: &[u8],
+    n: usize,
+    clauses: &[u8],
+    c: usize,
+) -> Result<Header, Refusal>
     requires { (length nodes.now ≡ node_size * most_nodes) × (n ≤ most_nodes) × (length clauses.now ≡ clause_size * most_clauses) × (c ≤ most_clauses) }
-    ensures { result ≡ sheet_refusal (sheet_bytes s m (draft nodes.now n) (draft clauses.now c)) }
+    ensures { result ≡ sheet_answer (sheet_bytes s m (draft nodes.now n) (draft clauses.now c)) }
 {
     let mut bytes = no_sheet();
     let size = assemble(&mut bytes, s, m, nodes, n, clauses, c);
-    let answer = read_sheet(&bytes[0..size]);
-    sheet_number(answer)
+    read_sheet(&bytes[0..size])
 }
 
-// 20 for more than 64 nodes or 8 clauses, then the lowest of 1 to 9, then 14 where so many lent bytes are too few; 0 for none of them.
-fn refusal(
+// Refuses more than 64 nodes or 8 clauses, then what 1 to 9 refuse, then too few lent bytes.
+fn judge(
     s: usize,
     m: usize,
     nodes: &[u8],
@@ -58,36 +66,33 @@ fn refusal(
     clauses: &[u8],
     c: usize,
     lent: usize,
-) -> usize
+) -> Result<(), Refusal>
     requires { (length nodes.now ≡ node_size * most_nodes) × (length clauses.now ≡ clause_size * most_clauses) }
-    ensures { result ≡ draft_refusal s m (draft nodes.now n) (draft clauses.now c) lent }
+    ensures { result ≡ answered (draft_refusal s m (draft nodes.now n) (draft clauses.now c) lent) tt }
 {
     if layout::MOST_NODES < n {
-        return 20;
+        return Err(Refusal::TooLarge);
     }
     if layout::MOST_CLAUSES < c {
-        return 20;
+        return Err(Refusal::TooLarge);
     }
-    let number = sheet_refusal(s, m, nodes, n, clauses, c);
-    if number != 0 {
-        return number;
-    }
+    read_draft(s, m, nodes, n, clauses, c)?;
     if lent < layout::LEAST_OUTPUT {
-        return 14;
+        return Err(Refusal::ShortOutput);
     }
-    0
+    Ok(())
 }
 
 // Reads a typed sheet, writes it as a stored sheet to the front of the lent bytes and gives its length, or the first refusal of 18, 19,
 // 20, 1 to 9 and 14; refused, the lent bytes are as before.
-pub fn read_text(text: &[u8], out: &mut [u8]) -> WriteAnswer
+pub fn read_text(text: &[u8], out: &mut [u8]) -> Result<usize, Refusal>
     ensures { ReadText text.now out.old out.new result }
 {
     if too_deep(text) {
-        return WriteAnswer::Refused(18);
+        return Err(Refusal::TooDeep);
     }
     if !ends_line(text) {
-        return WriteAnswer::Refused(19);
+        return Err(Refusal::OutsideGrammar);
     }
     let mut nodes = no_nodes();
     let mut clauses = no_clauses();
@@ -97,11 +102,8 @@ pub fn read_text(text: &[u8], out: &mut [u8]) -> WriteAnswer
     let n = said.count;
     let c = said.many;
     if !said.ok {
-        return WriteAnswer::Refused(19);
+        return Err(Refusal::OutsideGrammar);
     }
-    let number = refusal(s, m, &nodes, n, &clauses, c, out.len());
-    if number != 0 {
-        return WriteAnswer::Refused(number);
-    }
-    WriteAnswer::Written(assemble(out, s, m, &nodes, n, &clauses, c))
+    judge(s, m, &nodes, n, &clauses, c, out.len())?;
+    Ok(assemble(out, s, m, &nodes, n, &clauses, c))
 }

@@ -2,16 +2,19 @@
 use Prim.Native.Nat.{ℕ, ◌+◌, ◌*◌, ◌^◌, ◌≤◌, ◌<◌}
 use mathlib.Core.Bool.{Bool, true, false, ◌&&◌}
 use mathlib.Core.List.{List}
+use mathlib.Core.Logic.{inl, inr}
 use mathlib.Core.Path.{◌≡◌, refl, sym}
 use native.Mathlib.Omega.{arith}
 use borrow.Author.Tests.{ltb-true, leb-true, eqb-true}
 use lib.Dec.{leb, eqb}
 use lib.ListN.{length, get_or}
 use Rattle.semantics.proofs.Tests.{and_left, and_right}
-use Rattle.stored.specs.Tree.{pick}
-use Rattle.stored.proofs.Rules.{every_at, lowest_kept, length_in_order, get_or_in_order}
-use Rattle.traces.specs.declared.TraceAnswer.TheVariants.{Cycles, Refused}
-use Rattle.traces.specs.Trace.{cycle_count, cycle_at, cycle_right, cycles_right, trace_rules, trace_refusal, trace_answer, trace_number, cycles_of}
+use Rattle.stored.proofs.Rules.{lowest_law, every_at, lowest_kept, length_in_order, get_or_in_order}
+use Rattle.std.specs.Prelude.{Ok, Err}
+use Rattle.stored.specs.declared.refusal.Refusal.{Refusal}
+use Rattle.stored.specs.Refusal.{number_of}
+use Rattle.stored.proofs.Refusals.{of_value, of_refusal}
+use Rattle.traces.specs.Trace.{cycle_count, cycle_at, cycle_right, cycles_right, trace_rules, trace_refusal, trace_answer, cycles_of}
 
 -- a trace to which none of the numbers 10 to 13 applies
 pub record TraceOpened (s : ℕ) (t : List ℕ) : Type 0 where
@@ -38,31 +41,22 @@ trace_opened s t e =
       cycle_small = λ i h. ltb-true (cycle_at t i) (2 ^ s) (every_at (cycle_count t) (cycle_right s t) (and_right most _ rest) i h);
     }
 
-pub cycles_accepted : (s : ℕ) (t : List ℕ) (n : ℕ) → trace_answer s t ≡ Cycles n → (trace_refusal s t ≡ 0) × (cycle_count t ≡ n)
-unfolding trace_answer pick
-cycles_accepted s t n e = go (eqb (trace_refusal s t) 0) refl e
-  where
-    go : (b : Bool) → eqb (trace_refusal s t) 0 ≡ b → pick b (Cycles (cycle_count t)) (Refused (trace_refusal s t)) ≡ Cycles n → (trace_refusal s t ≡ 0) × (cycle_count t ≡ n)
-    go true p q = (eqb-true (trace_refusal s t) 0 p, (cc))
-    go false p q = absurd (let z : ◌≡◌ {A = ℕ} 0 1 = cc in omega arith)
+pub cycles_accepted : (s : ℕ) (t : List ℕ) (n : ℕ) → trace_answer s t ≡ Ok n → (trace_refusal s t ≡ 0) × (cycle_count t ≡ n)
+unfolding trace_answer
+cycles_accepted s t n e = of_value (trace_refusal s t) (cycle_count t) n e
+
+pub trace_small : (s : ℕ) (t : List ℕ) → trace_refusal s t < 14
+unfolding trace_refusal trace_rules
+trace_small s t =
+    elim (lowest_law 10 (trace_rules s t) (omega arith)).range [
+      | inl e ↦ omega arith
+      | inr e ↦ omega (arith, e.1)
+    ]
 
 -- a refused trace has the refusal's number
-pub cycles_refused : (s : ℕ) (t : List ℕ) (k : ℕ) → trace_answer s t ≡ Refused k → (eqb (trace_refusal s t) 0 ≡ false) × (trace_refusal s t ≡ k)
-unfolding trace_answer pick
-cycles_refused s t k e = go (eqb (trace_refusal s t) 0) refl e
-  where
-    go : (b : Bool) → eqb (trace_refusal s t) 0 ≡ b → pick b (Cycles (cycle_count t)) (Refused (trace_refusal s t)) ≡ Refused k → (eqb (trace_refusal s t) 0 ≡ false) × (trace_refusal s t ≡ k)
-    go true p q = absurd (let z : ◌≡◌ {A = ℕ} 0 1 = cc in omega arith)
-    go false p q = (p, (cc))
-
--- an answer's number is the refusal's
-pub trace_number_lem : (s : ℕ) (t : List ℕ) → trace_number (trace_answer s t) ≡ trace_refusal s t
-unfolding trace_answer trace_number pick
-trace_number_lem s t = go (eqb (trace_refusal s t) 0) refl
-  where
-    go : (b : Bool) → eqb (trace_refusal s t) 0 ≡ b → trace_number (pick b (Cycles (cycle_count t)) (Refused (trace_refusal s t))) ≡ trace_refusal s t
-    go true e = sym (eqb-true (trace_refusal s t) 0 e)
-    go false e = refl
+pub cycles_refused : (s : ℕ) (t : List ℕ) (e : Refusal) → trace_answer s t ≡ Err e → number_of e ≡ trace_refusal s t
+unfolding trace_answer
+cycles_refused s t e is = of_refusal (trace_refusal s t) (cycle_count t) e (let small = trace_small s t in omega arith) is
 
 pub cycles_count : (t : List ℕ) → length (cycles_of t) ≡ cycle_count t
 unfolding cycles_of

@@ -1,11 +1,10 @@
 -- Document 01, "The stored sheet", of a trace, and refusals 10 to 13.
-use Rattle.std.specs.Prelude.{ℕ, ◌+◌, ◌-◌, ◌*◌, ◌/◌, ◌^◌, Bool, ◌&&◌, List, [], ◌∷◌, leb, ltb, eqb, length, get_or}
+use Rattle.std.specs.Prelude.{ℕ, ◌+◌, ◌-◌, ◌*◌, ◌/◌, ◌^◌, Bool, ◌&&◌, List, [], ◌∷◌, leb, ltb, eqb, length, get_or, Result}
 use Rattle.semantics.specs.Proposition.{Trace}
-use Rattle.traces.specs.declared.TraceAnswer.{TraceAnswer}
-use Rattle.traces.specs.declared.TraceAnswer.TheVariants.{Cycles, Refused}
+use Rattle.stored.specs.declared.refusal.Refusal.{Refusal}
 use Rattle.stored.specs.Bytes.{word, framed_from, every_below, in_order, lowest}
 use Rattle.stored.specs.Layout.{cycles_start, cycle_size, most_cycles}
-use Rattle.stored.specs.Tree.{pick}
+use Rattle.stored.specs.Refusal.{answered}
 
 -- a two-byte word a cycle from byte 4 on
 unfoldable pub cycle_count : List ℕ → ℕ
@@ -43,14 +42,9 @@ trace_rules s t = trace_framed t ∷ trace_versioned t ∷ same_signals s t ∷ 
 unfoldable pub trace_refusal : ℕ → List ℕ → ℕ
 trace_refusal s t = lowest 10 (trace_rules s t)
 
--- what the cases of an answer say: Refused has the refusal's number, Cycles how many cycles a trace has to which no number applies
-unfoldable pub trace_answer : ℕ → List ℕ → TraceAnswer
-trace_answer s t = pick (eqb (trace_refusal s t) 0) (Cycles (cycle_count t)) (Refused (trace_refusal s t))
-
--- an answer's number, 0 for Cycles
-unfoldable pub trace_number : TraceAnswer → ℕ
-trace_number (Cycles n) = 0
-trace_number (Refused number) = number
+-- how many cycles a trace has to which no number applies, or the refusal with the lowest number that does
+unfoldable pub trace_answer : ℕ → List ℕ → Result ℕ Refusal
+trace_answer s t = answered (trace_refusal s t) (cycle_count t)
 
 unfoldable pub cycles_of : List ℕ → Trace
 cycles_of t = in_order (cycle_count t) (cycle_at t)

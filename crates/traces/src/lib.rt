@@ -3,10 +3,3 @@
 
 pub mod trace;
 pub mod writer;
-
-// How many cycles an accepted trace has, or the number of the refusal.
-#[derive(Drop)]
-pub enum TraceAnswer {
-    Cycles(usize),
-    Refused(usize),
-}

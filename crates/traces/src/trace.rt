@@ -3,11 +3,11 @@ ghost use Rattle.std.specs.Prelude.{◌≡◌, ◌+◌, ◌*◌, ◌≤◌, ◌<
 ghost use Rattle.stored.specs.Bytes.{every_below};
 ghost use Rattle.traces.specs.Columns.{signal_column, columns_of};
 ghost use Rattle.stored.specs.Layout.{cycles_start, cycle_size, most_signals, most_cycles};
-ghost use Rattle.traces.specs.Trace.{cycle_at, cycle_right, trace_answer, trace_number};
+ghost use Rattle.traces.specs.Trace.{cycle_at, cycle_right, trace_answer};
 
-use crate::TraceAnswer;
 use rows::mask::{has, only};
 use std::array;
+use stored::refusal::Refusal;
 use stored::{bytes, layout};
 
 // No bit from s up is set.
@@ -38,43 +38,34 @@ fn cycles_ok(trace: &[u8], n: usize, s: usize) -> bool
     (0..n).all(|i| is_below(cycle_at(trace, i), s))
 }
 
-// How many cycles a trace beside a sheet of s signals has, or the lowest number from 10 to 13 that applies to it.
-pub fn read_trace(trace: &[u8], s: usize) -> TraceAnswer
+// How many cycles a trace beside a sheet of s signals has, or the refusal with the lowest number from
+// 10 to 13 that applies to it.
+pub fn read_trace(trace: &[u8], s: usize) -> Result<usize, Refusal>
     ensures { result ≡ trace_answer s trace.now }
 {
     if !bytes::is_framed(trace, layout::CYCLES_START) {
-        return TraceAnswer::Refused(10);
+        return Err(Refusal::TraceNotFramed);
     }
     if bytes::byte(trace, 2) != 1 {
-        return TraceAnswer::Refused(11);
+        return Err(Refusal::UnknownTraceVersion);
     }
     if bytes::byte(trace, 3) != s {
-        return TraceAnswer::Refused(12);
+        return Err(Refusal::OtherSignals);
     }
     let n = (trace.len() - layout::CYCLES_START) / layout::CYCLE_SIZE;
     if trace.len() != layout::CYCLES_START + layout::CYCLE_SIZE * n {
-        return TraceAnswer::Refused(13);
+        return Err(Refusal::InvalidCycles);
     }
     if n < 1 {
-        return TraceAnswer::Refused(13);
+        return Err(Refusal::InvalidCycles);
     }
     if layout::MOST_CYCLES < n {
-        return TraceAnswer::Refused(13);
+        return Err(Refusal::InvalidCycles);
     }
     if !cycles_ok(trace, n, s) {
-        return TraceAnswer::Refused(13);
+        return Err(Refusal::InvalidCycles);
     }
-    TraceAnswer::Cycles(n)
-}
-
-// An answer's number, 0 for an accepted trace.
-pub fn trace_number(answer: TraceAnswer) -> usize
-    ensures { result ≡ trace_number answer }
-{
-    match answer {
-        TraceAnswer::Cycles(_) => 0,
-        TraceAnswer::Refused(number) => number,
-    }
+    Ok(n)
 }
 
 // How many columns a set has: sixteen for the signals, then three for the names.

@@ -1,11 +1,11 @@
 -- From the bytes written to what translate promises.
 use Prim.Native.Nat.{ℕ, ◌+◌, ◌-◌, ◌*◌, ◌≤◌, ◌<◌}
-use mathlib.Core.Bool.{Bool, true, false}
+use mathlib.Core.Bool.{Bool, true, false, cond}
 use mathlib.Core.List.{List}
 use mathlib.Core.Path.{◌≡◌, refl, sym, ◌∙◌, ap, subst}
 use native.Mathlib.Omega.{arith}
 use borrow.Author.Tests.{le-leb, eq-eqb, eqb-true, ne_eqb, lt-ltb, le-ltb}
-use lib.Dec.{eqb}
+use lib.Dec.{eqb, ltb}
 use lib.ListN.{length, get_or, take, drop, length-take}
 use Rattle.semantics.specs.Formula.{Formula, true_of}
 use Rattle.semantics.specs.Placement.{no_names}
@@ -17,11 +17,13 @@ use Rattle.semantics.proofs.Agreement.{agreement}
 use Rattle.semantics.proofs.Tests.{and_intro}
 use Rattle.stored.specs.declared.Node.{Node}
 use Rattle.stored.specs.declared.Header.{Header}
-use Rattle.stored.specs.declared.SheetAnswer.{SheetAnswer}
+use Rattle.std.specs.Prelude.{Result, Ok, Err}
+use Rattle.stored.specs.declared.refusal.Refusal.{Refusal}
+use Rattle.stored.specs.declared.refusal.Refusal.TheVariants.{ShortOutput}
 use Rattle.stored.specs.Bytes.{word, framed_from}
 use Rattle.stored.specs.Node.{emitted_sorts, sort_of, sort_below, node_right, is_formula_node}
 use Rattle.stored.specs.Tree.{pick, formula_at}
-use Rattle.stored.specs.Sheet.{header_of, node_part, clause_part, nodes_of, stored_of, framed, versioned, sized, sheet_refusal, sheet_answer, sheet_number, clause_in, clauses_of, requirement_of}
+use Rattle.stored.specs.Sheet.{header_of, node_part, clause_part, nodes_of, stored_of, framed, versioned, sized, sheet_refusal, sheet_answer, clause_in, clauses_of, requirement_of}
 use Rattle.stored.specs.Emitted.{of_kind_two, emitted_counted, root_of, emitted_formula, emitted_nodes, emitted_operands, is_emitted, emitted_true}
 use Rattle.stored.specs.Reached.{Reached}
 use Rattle.stored.specs.Layout.{emitted_kind, nodes_end, clauses_end, following, least_output}
@@ -30,10 +32,10 @@ use Rattle.stored.proofs.Rules.{every_all}
 use Rattle.stored.proofs.Tree.{formula_agree}
 use Rattle.stored.proofs.Written.{header_length, header_back, header_byte, header_read, header_rest, nodes_in, taken_byte, taken_header, taken_node}
 use Rattle.stored.proofs.Emitted.{emitted_made}
-use Rattle.stored.proofs.Accepted.{Opened, length_nodes, length_clauses, accepted_fits, answer_accepted, answer_refused}
-use Rattle.stored.specs.declared.WriteAnswer.{WriteAnswer}
-use Rattle.stored.specs.declared.WriteAnswer.TheVariants.{Written, Refused}
-use Rattle.stored.specs.Output.{write_answer, write_number, written_length}
+use Rattle.stored.proofs.Accepted.{Opened, length_nodes, length_clauses, accepted_fits, answer_accepted, answer_refused, sheet_small}
+use Rattle.stored.specs.Refusal.{number_of, last_number, answered, answer_number}
+use Rattle.stored.specs.Output.{written_length}
+use Rattle.stored.proofs.Refusals.{number_some, refusal_applies, answered_value, answered_refusal, number_answered}
 use Rattle.translator.specs.Refusal.{translate_refusal}
 use Rattle.plans.specs.Bound.{drawings, node_bound}
 use Rattle.translator.specs.Draft.{DraftOf}
@@ -273,34 +275,39 @@ module _ (s x y₀ y d : List ℕ) (root r : ℕ) (o : Opened s) (big : least_ou
   size_kept = pruned.step.size ∙ empty_length x y₀ (header_of s).signals (header_of s).names big e₀
 
 -- ---- the three outcomes
--- an answer has the number that applies
-pub number_told : {s x y : List ℕ} {r : WriteAnswer} → Translated s x y r → write_number r ≡ translate_refusal s (length x)
-unfolding write_answer write_number pick
-number_told {s} {x} {r = r} t = ap write_number t.answer ∙ go (translate_refusal s (length x)) (eqb (translate_refusal s (length x)) 0) refl
+pub translate_small : (s : List ℕ) (size : ℕ) → translate_refusal s size ≤ last_number
+unfolding translate_refusal
+translate_small s size = go (eqb (sheet_refusal s) 0) (ltb size least_output) (sheet_small s)
   where
-    go : (k : ℕ) (b : Bool) → eqb k 0 ≡ b → write_number (pick b (Written (written_length r)) (Refused k)) ≡ k
-    go k true e = sym (eqb-true k 0 e)
-    go k false e = refl
+    go : (a b : Bool) → sheet_refusal s < 10 → cond a (cond b 14 0) (sheet_refusal s) ≤ last_number
+    go true true h = omega arith
+    go true false h = omega arith
+    go false b h = omega arith
 
-refused_law : (s x : List ℕ) (k : ℕ) → translate_refusal s (length x) ≡ k → (k ≡ 0 → ⊥) → Translated s x x (Refused k)
-unfolding write_answer written_length pick
-refused_law s x k e some =
+-- an answer has the number that applies
+pub number_told : {s x y : List ℕ} {r : Result ℕ Refusal} → Translated s x y r → answer_number r ≡ translate_refusal s (length x)
+number_told {s} {x} {r = r} t = ap answer_number t.answer ∙ number_answered (translate_refusal s (length x)) (written_length r) (translate_small s (length x))
+
+refused_law : (s x : List ℕ) (e : Refusal) → number_of e ≡ translate_refusal s (length x) → Translated s x x (Err e)
+refused_law s x e is =
+    let some = number_some e in
+    let applies : translate_refusal s (length x) ≡ 0 → ⊥ = λ z. omega arith in
     record {
-      answer = rw (e, ne_eqb k 0 some);
+      answer = answered_refusal (translate_refusal s (length x)) _ e is;
       size = refl;
       unchanged = λ h. refl;
-      formula = λ h. absurd (some (sym e ∙ h));
-      long = λ h. absurd (some (sym e ∙ h));
-      later = λ h. absurd (some (sym e ∙ h));
+      formula = λ h. absurd (applies h);
+      long = λ h. absurd (applies h);
+      later = λ h. absurd (applies h);
     }
 
-pub sheet_refused : (s x : List ℕ) (answer : SheetAnswer) (k : ℕ) → answer ≡ sheet_answer s → answer ≡ SheetAnswer.Refused k → Translated s x x (Refused (sheet_number answer))
-unfolding translate_refusal sheet_number
-sheet_refused s x answer k told e =
-    let r = answer_refused s k (sym told ∙ e) in
-    rw e (refused_law s x k (rw r.0 r.1) (λ z. borrow.Author.Tests.eqb-false (sheet_refusal s) 0 r.0 (r.1 ∙ z)))
+pub sheet_refused : (s x : List ℕ) (e : Refusal) → sheet_answer s ≡ Err e → Translated s x x (Err e)
+unfolding translate_refusal
+sheet_refused s x e told =
+    let is = answer_refused s e told in
+    refused_law s x e (is ∙ rw (refusal_applies e is))
 
-module _ (s : List ℕ) (h : Header) (accepted : sheet_answer s ≡ SheetAnswer.Accepted h) where
+module _ (s : List ℕ) (h : Header) (accepted : sheet_answer s ≡ Ok h) where
   no_number : sheet_refusal s ≡ 0
   no_number = (answer_accepted s h accepted).0
 
@@ -310,16 +317,16 @@ module _ (s : List ℕ) (h : Header) (accepted : sheet_answer s ≡ SheetAnswer.
   pub opened_sheet : Opened s
   opened_sheet = Rattle.stored.proofs.Accepted.opened s no_number
 
-  pub output_refused : (x : List ℕ) → length x < least_output → Translated s x x (Refused 14)
-  unfolding translate_refusal
-  output_refused x l = refused_law s x 14 (rw (no_number, lt-ltb (length x) least_output l)) (λ z. omega arith)
+  pub output_refused : (x : List ℕ) → length x < least_output → Translated s x x (Err ShortOutput)
+  unfolding translate_refusal number_of
+  output_refused x l = refused_law s x ShortOutput (rw (no_number, lt-ltb (length x) least_output l))
 
-  translated : (x y : List ℕ) (l : ℕ) → least_output ≤ length x → length y ≡ length x → FormulaOf s (take l y) → length (take l y) ≡ l → drop l y ≡ drop l x → Translated s x y (Written l)
-  unfolding translate_refusal write_answer written_length pick
+  translated : (x y : List ℕ) (l : ℕ) → least_output ≤ length x → length y ≡ length x → FormulaOf s (take l y) → length (take l y) ≡ l → drop l y ≡ drop l x → Translated s x y (Ok l)
+  unfolding translate_refusal written_length
   translated x y l big size formula long later =
       let none : translate_refusal s (length x) ≡ 0 = rw (no_number, le-ltb (length x) least_output big) in
       record {
-        answer = rw none;
+        answer = answered_value (translate_refusal s (length x)) l none;
         size = size;
         unchanged = λ z. absurd (z none);
         formula = λ z. formula;
@@ -337,13 +344,13 @@ pub record Run (s x : List ℕ) (h : Header) (y : List ℕ) (r : ℕ) : Type 0 w
       Emits y₁ y r (requirement_cost (node_part s) h.nodes h.clauses (header_of y₁).names) (translation (clauses_at (node_part s) (clause_part s) h.clauses))
   pub last : count y ≡ r + 1
 
-pub run_drafted : {y : List ℕ} {r : ℕ} (s x : List ℕ) (h : Header) → sheet_answer s ≡ SheetAnswer.Accepted h → least_output ≤ length x → Run s x h y r → DraftOf s y r
+pub run_drafted : {y : List ℕ} {r : ℕ} (s x : List ℕ) (h : Header) → sheet_answer s ≡ Ok h → least_output ≤ length x → Run s x h y r → DraftOf s y r
 run_drafted {y} {r} s x h accepted big run =
     let u : Run s x (header_of s) y r = subst (λ (g : Header). Run s x g y r) (sym (header_is s h accepted)) run in
     draft_written s x u.y₀ u.y₁ y r (opened_sheet s h accepted) big u.headed u.shared u.required u.last
 
 -- bytes with a header and no node, for what the draft's root reaches
-module _ {s y₀ d : List ℕ} {h : Header} {root : ℕ} (x : List ℕ) (accepted : sheet_answer s ≡ SheetAnswer.Accepted h) (big : least_output ≤ length x)
+module _ {s y₀ d : List ℕ} {h : Header} {root : ℕ} (x : List ℕ) (accepted : sheet_answer s ≡ Ok h) (big : least_output ≤ length x)
     (draft : DraftOf s d root) (e : y₀ ≡ put_header x emitted_kind h.signals h.names 0 0) where
   headed : y₀ ≡ put_header x emitted_kind (header_of s).signals (header_of s).names 0 0
   headed = subst (λ (g : Header). y₀ ≡ put_header x emitted_kind g.signals g.names 0 0) (sym (header_is s h accepted)) e
@@ -360,7 +367,7 @@ module _ {s y₀ d : List ℕ} {h : Header} {root : ℕ} (x : List ℕ) (accepte
         names = empty_names x y₀ (header_of s).signals (header_of s).names big headed ∙ sym draft.names;
       }
 
-  pub run_translated : {y : List ℕ} {r l : ℕ} → PrunedTo d root y₀ y r → l ≡ nodes_end (r + 1) → Translated s x y (Written l)
+  pub run_translated : {y : List ℕ} {r l : ℕ} → PrunedTo d root y₀ y r → l ≡ nodes_end (r + 1) → Translated s x y (Ok l)
   run_translated {y} {r} {l} pruned f =
       let o = opened_sheet s h accepted in
       rw f

@@ -1,13 +1,14 @@
 -- The promise of translate: the translator's side of document 01's demand 3.
-use Rattle.std.specs.Prelude.{ℕ, ◌≤◌, ◌<◌, true, List, ◌≡◌, length, take, drop}
+use Rattle.std.specs.Prelude.{ℕ, ◌≤◌, ◌<◌, true, List, ◌≡◌, length, take, drop, Result}
 use Rattle.semantics.specs.Proposition.{Trace}
 use Rattle.semantics.specs.Verdict.{without_advice}
 use Rattle.semantics.specs.Translation.{translation}
 use Rattle.stored.specs.Sheet.{header_of, nodes_of, clauses_of, requirement_of}
 use Rattle.stored.specs.Emitted.{is_emitted, root_of, emitted_formula, emitted_true}
 use Rattle.stored.specs.Reached.{Reached}
-use Rattle.stored.specs.declared.WriteAnswer.{WriteAnswer}
-use Rattle.stored.specs.Output.{write_answer, written_length}
+use Rattle.stored.specs.declared.refusal.Refusal.{Refusal}
+use Rattle.stored.specs.Refusal.{answered}
+use Rattle.stored.specs.Output.{written_length}
 use Rattle.translator.specs.Refusal.{translate_refusal}
 use Rattle.plans.specs.Bound.{node_bound}
 
@@ -26,8 +27,8 @@ pub record FormulaOf (s y : List ℕ) : Type 0 where
   pub agreement : (σ : Trace) → 0 < length σ → emitted_true y σ ≡ requirement_of s σ
 
 -- output bytes x became y, and the answer is r
-pub record Translated (s x y : List ℕ) (r : WriteAnswer) : Type 0 where
-  pub answer : r ≡ write_answer (translate_refusal s (length x)) (written_length r)
+pub record Translated (s x y : List ℕ) (r : Result ℕ Refusal) : Type 0 where
+  pub answer : r ≡ answered (translate_refusal s (length x)) (written_length r)
   pub size : length y ≡ length x
   pub unchanged : (translate_refusal s (length x) ≡ 0 → ⊥) → y ≡ x
   -- where no number applies: the formula, whose length is answered; later bytes keep their values

@@ -1,14 +1,16 @@
 -- `exports::fasunqir_check` meets its contract.
 use mathlib.Core.Path.{sym, ◌∙◌, ap, subst}
-use Rattle.checker.specs.declared.check.Answer.{Answer}
-use Rattle.checker.specs.Small.{Small}
-use Rattle.checker.proofs.Bounds.{answer_small}
+use Rattle.std.specs.Prelude.{Result, IfOk}
+use Rattle.stored.specs.declared.refusal.Refusal.{Refusal}
+use Rattle.checker.specs.declared.check.Verdict.{Verdict}
+use Rattle.checker.specs.Small.{SmallVerdict}
+use Rattle.checker.proofs.Bounds.{verdict_fits}
 use Rattle.exports.specs.Packed.{packed}
 use Rattle.exports.proofs.Unpacking.{unpacked_is}
 use Rattle.exports.proofs.fasunqir_check.Goals as goal
 
 pub packed_answer-requires : goal.packed_answer-requires
-packed_answer-requires c = subst (λ (x : Answer). Small x) (sym c.check-answer.ensures.value) (answer_small _ _ _)
+packed_answer-requires c = subst (λ (x : Result Verdict Refusal). IfOk x SmallVerdict) (sym c.check-answer.ensures.value) (verdict_fits _ _ _)
 
 pub returns : goal.returns
 returns c =

@@ -1,6 +1,6 @@
 -- `exports::fasunqir_table` meets its contract.
 use native.Mathlib.Omega.{arith}
-use Rattle.exports.proofs.Tabled.{answer_fits, short_law, long_law}
+use Rattle.exports.proofs.Tabled.{short_law, long_law}
 use Rattle.exports.proofs.fasunqir_table.Goals as goal
 
 pub returns-then-rows-lt64 : goal.returns-then-rows-lt64
@@ -20,11 +20,6 @@ returns-then-rows-lt64 c =
     (omega arith)
     c.refused_short.ensures in
     record { value = all.0; words_after = all.1.0; rows_after = all.1.1 }
-
-pub put_answer-requires : goal.put_answer-requires
-put_answer-requires c =
-    let fits = answer_fits _ _ _ _ _ _ _ c.table-answer.result c.table-answer.ensures.value in
-    (fits.0, fits.1, omega arith)
 
 pub returns : goal.returns
 returns c =

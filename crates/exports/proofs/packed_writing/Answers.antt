@@ -1,31 +1,27 @@
 -- `exports::packed_writing` meets its contract.
-use Prim.Native.Nat.{◌≤◌}
-use mathlib.Core.Path.{sym, ap, subst}
+use Prim.Native.Nat.{ℕ, ◌≤◌}
+use mathlib.Core.Path.{sym, ◌∙◌, ap, subst}
 use borrow.Author.Rules.{rules}
+use Rattle.std.specs.Prelude.{Result}
 use Rattle.stored.specs.Layout.{least_output}
-use Rattle.stored.specs.declared.WriteAnswer.{WriteAnswer}
+use Rattle.stored.specs.declared.refusal.Refusal.{Refusal}
 use Rattle.exports.specs.Packed.{packed_writing, SmallWriting}
 use Rattle.exports.proofs.packed_writing.Goals as goal
 
 pub overflow_mul-result : goal.overflow_mul-result
 overflow_mul-result c =
-    let small : c.in-Written.size ≤ least_output = subst (λ (x : WriteAnswer). SmallWriting x) c.in-Written.is c.requires in
+    let small : c.in-Ok.size ≤ least_output = subst (λ (x : Result ℕ Refusal). SmallWriting x) c.in-Ok.is c.requires in
     search rules
 
 pub overflow_add-result : goal.overflow_add-result
 overflow_add-result c =
-    let small : c.in-Written.size ≤ least_output = subst (λ (x : WriteAnswer). SmallWriting x) c.in-Written.is c.requires in
+    let small : c.in-Ok.size ≤ least_output = subst (λ (x : Result ℕ Refusal). SmallWriting x) c.in-Ok.is c.requires in
     search rules
 
-pub overflow_mul-result-in-Refused : goal.overflow_mul-result-in-Refused
-overflow_mul-result-in-Refused c =
-    let small : c.in-Refused.number ≤ least_output = subst (λ (x : WriteAnswer). SmallWriting x) c.in-Refused.is c.requires in
-    search rules
-
-pub returns-in-Written : goal.returns-in-Written
+pub returns-in-Ok : goal.returns-in-Ok
 unfolding packed_writing
-returns-in-Written c = sym (ap packed_writing c.in-Written.is)
+returns-in-Ok c = sym (ap packed_writing c.in-Ok.is)
 
-pub returns-in-Refused : goal.returns-in-Refused
+pub returns-in-Err : goal.returns-in-Err
 unfolding packed_writing
-returns-in-Refused c = sym (ap packed_writing c.in-Refused.is)
+returns-in-Err c = c.packed_refusal.ensures ∙ sym (ap packed_writing c.in-Err.is)

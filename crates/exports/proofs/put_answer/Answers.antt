@@ -1,16 +1,24 @@
 -- `exports::put_answer` meets its contract.
-use mathlib.Core.Path.{◌∙◌}
-use Rattle.exports.proofs.Tabled.{put_none, put_some}
+use Prim.Native.Nat.{ℕ}
+use mathlib.Core.List.{List, ◌++◌}
+use mathlib.Core.Path.{◌≡◌, ◌∙◌, ap}
+use native.Mathlib.Omega.{arith}
+use borrow.Author.Rules.{rules}
+use lib.ListN.{length, drop, length-take}
+use Rattle.exports.proofs.Tabled.{put_refused, put_table}
 use Rattle.exports.proofs.put_answer.Goals as goal
 
-pub returns-then-answer-ne0 : goal.returns-then-answer-ne0
-returns-then-answer-ne0 c =
-    let answer = c.args.answer in
-    let all =
-    put_none answer.refused answer.rows _ c.if-answer-ne0.true in
-    record { value = all.0; rows_after = all.1 }
+pub copy_from_slice-requires : goal.copy_from_slice-requires
+copy_from_slice-requires c =
+    let long : length c.in-Ok.from ≡ 64 = search rules in
+    simp length-take (omega arith)
 
-pub returns : goal.returns
-returns c =
-    let put = put_some c.args.answer.refused c.args.answer.rows c.args.rows.now c.if-answer-ne0.false in
-    record { value = put.0; rows_after = c.put_rows.ensures ∙ put.1 }
+pub returns-in-Err : goal.returns-in-Err
+returns-in-Err c =
+    let all = put_refused c.args.table _ c.args.rows.now c.in-Err.is in
+    record { value = c.packed_refusal.ensures ∙ all.0; rows_after = all.1 }
+
+pub returns-in-Ok : goal.returns-in-Ok
+returns-in-Ok c =
+    let all = put_table c.args.table _ c.args.rows.now c.in-Ok.is in
+    record { value = all.0; rows_after = ap (λ (l : List ℕ). l ++ drop 64 c.args.rows.now) c.copy_from_slice.ensures.after ∙ all.1 }

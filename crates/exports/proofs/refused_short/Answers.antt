@@ -1,18 +1,13 @@
 -- `exports::refused_short` meets its contract.
 use Prim.Native.Nat.{ℕ, ◌*◌}
-use mathlib.Core.Path.{◌∙◌, ap}
-use borrow.Author.Rules.{rules}
-use Rattle.checker.specs.declared.table.TableAnswer.{TableAnswer}
-use Rattle.exports.proofs.Tabled.{answer_fits, one_word}
+use mathlib.Core.Path.{sym, ◌∙◌, ap}
+use Rattle.std.specs.Prelude.{is_err}
+use Rattle.exports.proofs.Tabled.{short_refused, short_number_lem}
 use Rattle.exports.proofs.refused_short.Goals as goal
 
-pub overflow_mul-result : goal.overflow_mul-result
-overflow_mul-result c =
-    let fits = answer_fits _ _ 0 0 0 0 _ c.table-answer.result c.table-answer.ensures.value in
-    let small = fits.0 in
-    search rules
+pub unwrap_err-requires : goal.unwrap_err-requires
+unwrap_err-requires c = ap is_err c.table.ensures.value ∙ short_refused _ _
 
 pub returns : goal.returns
 returns c =
-    ap (λ (x : TableAnswer). x.refused * 256) c.table-answer.ensures.value
-    ∙ ap (λ (n : ℕ). n * 256) (one_word _ _ 0 0 0 0)
+    c.packed_refusal.ensures ∙ ap (λ (n : ℕ). n * 256) (short_number_lem _ _ _ (sym c.table.ensures.value ∙ c.unwrap_err.ensures))

@@ -4,14 +4,14 @@ use mathlib.Core.List.{List}
 use mathlib.Core.Path.{◌≡◌, sym, ◌∙◌, subst}
 use native.Mathlib.Omega.{arith}
 use Rattle.stored.specs.Sheet.{sheet_answer}
-use Rattle.stored.specs.declared.SheetAnswer.{SheetAnswer}
+use Rattle.std.specs.Prelude.{Ok}
 use Rattle.stored.specs.declared.Header.{Header}
 use Rattle.stored.proofs.Accepted.{Counts}
 use Rattle.translator.proofs.Translating.{opened_sheet, header_is, run_drafted, empty_good, empty_count, empty_signals, empty_names, nodes_read, clauses_read, required_parts}
 use Rattle.translator.proofs.put_draft.Goals as goal
 
 -- what is known of an accepted sheet
-known : (s : List ℕ) (h : Header) → sheet_answer s ≡ SheetAnswer.Accepted h → Counts h
+known : (s : List ℕ) (h : Header) → sheet_answer s ≡ Ok h → Counts h
 known s h accepted = subst Counts (header_is s h accepted) (opened_sheet s h accepted).in_range
 
 pub node_part-nodes-requires : goal.node_part-nodes-requires

@@ -1,18 +1,18 @@
 -- `board::Board::open` meets its contract.
-use mathlib.Core.Path.{sym, ◌∙◌}
+use mathlib.Core.Path.{sym, ◌∙◌, ap}
+use Rattle.std.proofs.Common.{Ok}
+use Rattle.std.proofs.lemmas.Result.{err_from_is_err_and}
 use Rattle.stored.proofs.Accepted.{answer_accepted}
 use Rattle.board.proofs.Opening.{sheet_short, open_refused, open_accepted}
 use Rattle.board.proofs.Board.open.Goals as goal
 
-pub returns-in_default : goal.returns-in_default
-returns-in_default c =
-    let a = c.args in
-    rw c.new_board-board.ensures (open_refused a.sheet.now _ _ _ c.read_sheet-answer.ensures c.in_default.is c.sheet_number.ensures)
+pub returns-in_err-read_sheet : goal.returns-in_err-read_sheet
+returns-in_err-read_sheet c =
+    let p = err_from_is_err_and c.from_residual.result c.from_residual.ensures.1 in
+    rw (p.1, p.2) (open_refused c.args.sheet.now _ (sym c.in_err-read_sheet.ensures))
 
-pub new_board-board-requires-2 : goal.new_board-board-requires-2
-new_board-board-requires-2 c = sheet_short _ (answer_accepted _ _ (sym c.read_sheet-answer.ensures ∙ c.in-Accepted.is)).0
+pub new_board-requires : goal.new_board-requires
+new_board-requires c = sheet_short _ (answer_accepted _ _ (sym c.in_ok-read_sheet.ensures)).0
 
 pub returns : goal.returns
-returns c =
-    let a = c.args in
-    rw c.new_board-board-2.ensures (open_accepted a.sheet.now _ (sym c.read_sheet-answer.ensures ∙ c.in-Accepted.is))
+returns c = ap Ok c.new_board.ensures ∙ open_accepted c.args.sheet.now _ (sym c.in_ok-read_sheet.ensures)

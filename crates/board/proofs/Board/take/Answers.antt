@@ -37,7 +37,7 @@ returns c =
     let checked = c.check_cycles-answer in
     let sized : Sized a.self = record { sheet_long = search rules; cycles_long = search rules } in
     let all =
-    took a.self a.cycle a.words.now c.requires.0 sized checked.result c.shown-verdict.result a.s _ _ _ c.requires.1
+    took a.self a.cycle a.words.now c.requires.0 sized checked.result c.ok.result a.s _ _ _ c.requires.1
     (sheet_part a.self _ c.split-end.ensures.0) (cycles_part a.self a.cycle a.words.now c.requires.0 sized)
-    checked.ensures.value checked.ensures.words_after c.shown-verdict.ensures in
+    checked.ensures.value checked.ensures.words_after c.ok.ensures.value in
     record { board_value = all.0; answer_value = all.1.0; words_after = all.1.1 }

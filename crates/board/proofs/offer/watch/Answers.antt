@@ -1,22 +1,24 @@
 -- `board::offer::watch` meets its contract.
-use mathlib.Core.Path.{◌≡◌, ◌∙◌, ap, subst}
-use Rattle.board.specs.declared.Board.{Board}
-use Rattle.board.specs.declared.Opened.{Opened}
-use Rattle.board.specs.Board.{open_answer}
-use Rattle.board.specs.Feeds.{lent, taken_from, words_left, Told}
-use Rattle.board.proofs.Opening.{opened_number}
-use Rattle.board.proofs.Watched.{watched_opened}
+use mathlib.Core.Path.{sym, ◌∙◌, ap}
+use Rattle.std.proofs.Common.{Err}
+use Rattle.std.proofs.lemmas.Result.{err_from_is_err_and}
+use Rattle.board.proofs.Watched.{watch_refused, watch_opened}
 use Rattle.board.proofs.offer.watch.Goals as goal
+
+pub returns-in_err-new-clause-value : goal.returns-in_err-new-clause-value
+returns-in_err-new-clause-value c =
+    let a = c.args in
+    let p = err_from_is_err_and c.from_residual.result c.from_residual.ensures.1 in
+    p.1 ∙ ap Err p.2 ∙ (watch_refused a.sheet.now a.words.now a.cycles.now _ (sym c.in_err-new.ensures)).0
+
+pub returns-in_err-new-clause-words_after : goal.returns-in_err-new-clause-words_after
+returns-in_err-new-clause-words_after c =
+    let a = c.args in
+    (watch_refused a.sheet.now a.words.now a.cycles.now _ (sym c.in_err-new.ensures)).1
 
 pub returns : goal.returns
 returns c =
     let a = c.args in
-    let opened = c.open-opened.ensures in
-    let fed = c.feed_all-board.ensures in
-    let new : c.open-opened.result.board ≡ (open_answer a.sheet.now).board = ap (λ (o : Opened). o.board) opened in record {
-      refused_value = ap (λ (o : Opened). o.refused) opened ∙ opened_number a.sheet.now;
-      told = subst (λ (b : Board). Told b (lent a.words.now a.cycles.now) c.feed_all-board.result) new fed.told;
-      watched = λ accepted.
-          watched_opened a.sheet.now a.words.now a.cycles.now _ _ accepted new fed.told;
-      words_after = fed.words_after ∙ ap (λ (b : Board). words_left (taken_from b (lent a.words.now a.cycles.now)) a.words.now) new;
-    }
+    let fed = c.feed_all.ensures in
+    let z = watch_opened a.sheet.now a.words.now a.cycles.now _ _ _ (sym c.in_ok-new.ensures) fed.told fed.words_after in
+    record { value = z.value; told = z.told_new; watched = z.watched_new; words_after = z.left }

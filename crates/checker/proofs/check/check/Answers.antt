@@ -1,56 +1,63 @@
 -- `checker::check::check` meets its contract.
-use mathlib.Core.Path.{sym, ◌∙◌}
+use mathlib.Core.Path.{sym, ◌∙◌, ap}
+use Rattle.std.proofs.Common.{Err}
+use Rattle.std.proofs.lemmas.Result.{err_from_is_err_and}
+use Rattle.checker.specs.Table.{words_refusal}
+use Rattle.checker.specs.Check.{check_answer, check_refusal}
 use Rattle.checker.proofs.Opened.{trace_fits, few_signals, few_cycles, given_accepted}
-use Rattle.checker.proofs.Checked.{check_sheet, check_trace, check_words, check_verdict, clauses_sound}
+use Rattle.checker.proofs.Refusals.{sheet_refuses, trace_refuses, rest_refuses, few_words, words_cleared}
+use Rattle.checker.proofs.Checked.{check_verdict, clauses_sound}
 use Rattle.checker.proofs.check.check.Goals as goal
 
-pub returns-in_default : goal.returns-in_default
-returns-in_default c =
+pub returns-in_err-h : goal.returns-in_err-h
+unfolding check_answer check_refusal
+returns-in_err-h c =
     let a = c.args in
-    let all =
-    check_sheet a.sheet.now a.trace.now a.words.now _ _ _ c.read_sheet-sheet_answer.ensures c.in_default.is c.sheet_number.ensures in
-    record { value = all.0; words_after = all.1 }
+    let z = sheet_refuses a.sheet.now a.trace.now _ _ a.words.now _ (sym c.in_err-h.ensures) in
+    let p = err_from_is_err_and c.from_residual.result c.from_residual.ensures.1 in
+    record { value = p.1 ∙ ap Err p.2 ∙ z.given; words_after = z.left }
 
-pub returns-in_default-trace_answer : goal.returns-in_default-trace_answer
-returns-in_default-trace_answer c =
+pub returns-in_err-n : goal.returns-in_err-n
+unfolding check_answer check_refusal
+returns-in_err-n c =
     let a = c.args in
-    let accepted = sym c.read_sheet-sheet_answer.ensures ∙ c.in-Accepted.is in
-    let all =
-    check_trace a.sheet.now a.trace.now a.words.now _ accepted _ _ _ c.read_trace-trace_answer.ensures c.in_default-trace_answer.is c.trace_number.ensures in
-    record { value = all.0; words_after = all.1 }
+    let z = trace_refuses a.sheet.now a.trace.now _ _ a.words.now _ (sym c.in_ok-h.ensures) _ (sym c.in_err-n.ensures) in
+    let p = err_from_is_err_and c.from_residual-in_err-n.result c.from_residual-in_err-n.ensures.1 in
+    record { value = p.1 ∙ ap Err p.2 ∙ z.given; words_after = z.left }
 
 pub returns-then-words-lt-LEAST_WORDS : goal.returns-then-words-lt-LEAST_WORDS
+unfolding check_answer check_refusal
 returns-then-words-lt-LEAST_WORDS c =
     let a = c.args in
-    let accepted = sym c.read_sheet-sheet_answer.ensures ∙ c.in-Accepted.is in
-    let all =
-    check_words a.sheet.now a.trace.now a.words.now _ accepted _ (sym c.read_trace-trace_answer.ensures ∙ c.in-Cycles.is) c.if-words-lt-LEAST_WORDS.true in
-    record { value = all.0; words_after = all.1 }
+    let z = rest_refuses a.sheet.now a.trace.now _ _ a.words.now _ (sym c.in_ok-h.ensures) _ (sym c.in_ok-n.ensures) _ (few_words a.words.now c.if-words-lt-LEAST_WORDS.true) in
+    record { value = z.given; words_after = z.left }
 
 pub node_part-nodes-requires : goal.node_part-nodes-requires
-node_part-nodes-requires c = sym c.read_sheet-sheet_answer.ensures ∙ c.in-Accepted.is
+node_part-nodes-requires c = sym c.in_ok-h.ensures
 
 pub clause_part-clauses-requires : goal.clause_part-clauses-requires
-clause_part-clauses-requires c = sym c.read_sheet-sheet_answer.ensures ∙ c.in-Accepted.is
+clause_part-clauses-requires c = sym c.in_ok-h.ensures
 
 pub columns-columns-requires : goal.columns-columns-requires
 columns-columns-requires c =
     let a = c.args in
-    let accepted = sym c.read_sheet-sheet_answer.ensures ∙ c.in-Accepted.is in
-    let cycled = sym c.read_trace-trace_answer.ensures ∙ c.in-Cycles.is in
+    let accepted = sym c.in_ok-h.ensures in
+    let cycled = sym c.in_ok-n.ensures in
     (few_signals a.sheet.now a.trace.now _ _ accepted cycled, few_cycles a.sheet.now a.trace.now _ _ accepted cycled, trace_fits a.sheet.now a.trace.now _ _ accepted cycled)
 
-pub verdict_of-verdict-requires : goal.verdict_of-verdict-requires
-verdict_of-verdict-requires c =
+pub verdict_of-requires : goal.verdict_of-requires
+verdict_of-requires c =
     let a = c.args in
-    let accepted = sym c.read_sheet-sheet_answer.ensures ∙ c.in-Accepted.is in
-    let node = c.node_part-nodes.ensures in record { given = given_accepted a.sheet.now a.trace.now _ _ accepted (sym c.read_trace-trace_answer.ensures ∙ c.in-Cycles.is) _ c.columns-columns.ensures _ a.words.now c.if-words-lt-LEAST_WORDS.false node; sounds = clauses_sound a.sheet.now _ _ _ accepted node c.clause_part-clauses.ensures }
+    let accepted = sym c.in_ok-h.ensures in
+    let node = c.node_part-nodes.ensures in
+    record {
+      given = given_accepted a.sheet.now a.trace.now _ _ accepted (sym c.in_ok-n.ensures) _ c.columns-columns.ensures _ a.words.now c.if-words-lt-LEAST_WORDS.false node;
+      sounds = clauses_sound a.sheet.now _ _ _ accepted node c.clause_part-clauses.ensures;
+    }
 
 pub returns : goal.returns
 returns c =
     let a = c.args in
-    let accepted = sym c.read_sheet-sheet_answer.ensures ∙ c.in-Accepted.is in
-    let r = c.verdict_of-verdict.ensures in
-    let all =
-    check_verdict a.sheet.now a.trace.now a.words.now _ accepted _ (sym c.read_trace-trace_answer.ensures ∙ c.in-Cycles.is) _ _ _ _ _ c.if-words-lt-LEAST_WORDS.false c.node_part-nodes.ensures c.clause_part-clauses.ensures c.columns-columns.ensures r.value r.words_after in
-    record { value = all.0; words_after = all.1 }
+    let r = c.verdict_of.ensures in
+    let z = check_verdict a.sheet.now a.trace.now a.words.now _ (sym c.in_ok-h.ensures) _ (sym c.in_ok-n.ensures) _ _ _ _ c.if-words-lt-LEAST_WORDS.false c.node_part-nodes.ensures c.clause_part-clauses.ensures c.columns-columns.ensures r.value in
+    record { value = z.0; words_after = r.words_after ∙ words_cleared _ a.words.now z.1 }

@@ -1,14 +1,10 @@
 -- `checker::table::copy_rows` meets its contract.
 use mathlib.Core.Path.{◌≡◌}
-use Prim.Native.Nat.{ℕ, ◌-◌, ◌≤◌}
+use Prim.Native.Nat.{ℕ}
 use lib.ListN.{length, get_or}
 use Rattle.stored.specs.Tree.{earlier}
 use Rattle.tables.specs.Table.{row_at}
 use Rattle.checker.proofs.table.copy_rows.Given as goal
 
 abbrev pub invariant-loop-b : goal.invariant-loop-b
-invariant-loop-b l =
-    (l.b ≤ l.n) × (length l.rows ≡ 64) × ((k : ℕ) → get_or l.rows k 0 ≡ earlier l.b 0 (row_at l.words l.i) k)
-
-abbrev pub decreases-loop-b : goal.decreases-loop-b
-decreases-loop-b l = l.n - l.b
+invariant-loop-b l = (length l.rows ≡ 64) × ((k : ℕ) → get_or l.rows k 0 ≡ earlier l.b 0 (row_at l.words l.i) k)

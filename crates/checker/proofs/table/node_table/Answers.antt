@@ -1,5 +1,6 @@
 -- `checker::table::node_table` meets its contract.
-use mathlib.Core.Path.{refl, sym, ap, ◌∙◌}
+use mathlib.Core.Path.{sym, ap, ◌∙◌}
+use Rattle.std.specs.Prelude.{Ok}
 use native.Mathlib.Omega.{arith}
 use Prim.Native.Nat.{ℕ}
 use mathlib.Core.List.{List}
@@ -10,7 +11,7 @@ use Rattle.traces.specs.Columns.{trace_of}
 use Rattle.stored.proofs.Tree.{sort_below_lem}
 use Rattle.tables.specs.Table.{standing}
 use Rattle.checker.specs.Table.{placement_of, table_of, node_refusal}
-use Rattle.checker.proofs.Refusals.{answers_number, answers_rows, node_16, node_17, node_right_lem, names_inside}
+use Rattle.checker.proofs.Refusals.{answers_refused, answers_value, node_16, node_17, node_right_lem, names_inside}
 use Rattle.checker.proofs.table.node_table.Goals as goal
 
 pub is_formula_node-requires : goal.is_formula_node-requires
@@ -21,23 +22,23 @@ unfolding placement_of
 returns-then-not-is_formula_node c =
     let a = c.args in
     let x = node_at a.nodes.now in
-    let z = answers_number 16 _ (table_of x (trace_of a.n a.columns.now) a.node (placement_of a.m (get_or a.given 0 0) (get_or a.given 1 0) (get_or a.given 2 0))) a.words.now
-    (node_16 x a.count a.n a.m a.node (get_or a.given 0 0) (get_or a.given 1 0) (get_or a.given 2 0) (sym c.is_formula_node.ensures ∙ c.if-not-is_formula_node.true)) refl in
-    record { value = c.refused.ensures ∙ z.answered; words_after = z.left }
+    let z = answers_refused _ (table_of x (trace_of a.n a.columns.now) a.node (placement_of a.m (get_or a.given 0 0) (get_or a.given 1 0) (get_or a.given 2 0))) a.words.now _
+    (node_16 x a.count a.n a.m a.node (get_or a.given 0 0) (get_or a.given 1 0) (get_or a.given 2 0) (sym c.is_formula_node.ensures ∙ c.if-not-is_formula_node.true)) in
+    record { value = z.given; words_after = z.left }
 
 pub returns-then-not-names_placed : goal.returns-then-not-names_placed
 unfolding placement_of
 returns-then-not-names_placed c =
     let a = c.args in
     let x = node_at a.nodes.now in
-    let z = answers_number 17 _ (table_of x (trace_of a.n a.columns.now) a.node (placement_of a.m (get_or a.given 0 0) (get_or a.given 1 0) (get_or a.given 2 0))) a.words.now
+    let z = answers_refused _ (table_of x (trace_of a.n a.columns.now) a.node (placement_of a.m (get_or a.given 0 0) (get_or a.given 1 0) (get_or a.given 2 0))) a.words.now _
     (node_17 x a.count a.n a.m a.node (get_or a.given 0 0) (get_or a.given 1 0) (get_or a.given 2 0) (sym c.is_formula_node.ensures ∙ c.if-not-is_formula_node.false)
-    (sym c.names_placed.ensures ∙ c.if-not-names_placed.true)) refl in
-    record { value = c.refused-then-not-names_placed.ensures ∙ z.answered; words_after = z.left }
+    (sym c.names_placed.ensures ∙ c.if-not-names_placed.true)) in
+    record { value = z.given; words_after = z.left }
 
-pub rows_of-rows-requires : goal.rows_of-rows-requires
+pub rows_of-requires : goal.rows_of-requires
 unfolding is_formula_node
-rows_of-rows-requires c =
+rows_of-requires c =
     let a = c.args in
     let g = c.requires in
     let inside = names_inside a.m a.n (get_or a.given 0 0) (get_or a.given 1 0) (get_or a.given 2 0) g.some_cycles (sym c.names_placed.ensures ∙ c.if-not-names_placed.false) in
@@ -50,9 +51,9 @@ unfolding placement_of
 returns c =
     let a = c.args in
     let x = node_at a.nodes.now in
-    let r = c.rows_of-rows.ensures in
-    let z = answers_rows (node_refusal x a.count a.n a.m a.node (get_or a.given 0 0) (get_or a.given 1 0) (get_or a.given 2 0)) (table_of x (trace_of a.n a.columns.now) a.node (placement_of a.m (get_or a.given 0 0) (get_or a.given 1 0) (get_or a.given 2 0))) a.words.now
+    let r = c.rows_of.ensures in
+    let z = answers_value (node_refusal x a.count a.n a.m a.node (get_or a.given 0 0) (get_or a.given 1 0) (get_or a.given 2 0)) (table_of x (trace_of a.n a.columns.now) a.node (placement_of a.m (get_or a.given 0 0) (get_or a.given 1 0) (get_or a.given 2 0))) a.words.now
     (node_right_lem x a.count a.n a.m a.node (get_or a.given 0 0) (get_or a.given 1 0) (get_or a.given 2 0) (sym c.is_formula_node.ensures ∙ c.if-not-is_formula_node.false)
     (sym c.names_placed.ensures ∙ c.if-not-names_placed.false)) in
     let found = r.value ∙ ap (λ (l : List ℕ). table_of x (trace_of a.n a.columns.now) a.node (standing l)) c.heed_all.ensures in
-    record { value = ap (λ (l : List ℕ). record { refused = 0; rows = l }) found ∙ z.answered; words_after = r.words_after ∙ z.left }
+    record { value = ap Ok found ∙ z.given; words_after = r.words_after ∙ z.left }

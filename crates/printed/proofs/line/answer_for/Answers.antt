@@ -2,9 +2,11 @@
 use Prim.Native.Nat.{◌-◌}
 use mathlib.Core.Path.{sym, ◌∙◌, subst}
 use lib.ListN.{length, take, drop}
-use Rattle.checker.specs.declared.check.Answer.{Answer}
-use Rattle.checker.specs.Small.{Small}
-use Rattle.checker.proofs.Bounds.{answer_small}
+use Rattle.std.specs.Prelude.{Result, IfOk}
+use Rattle.stored.specs.declared.refusal.Refusal.{Refusal}
+use Rattle.checker.specs.declared.check.Verdict.{Verdict}
+use Rattle.checker.specs.Small.{SmallVerdict}
+use Rattle.checker.proofs.Bounds.{verdict_fits}
 use Rattle.printed.proofs.Answers.{first_part, last_part, check_is}
 use Rattle.printed.proofs.line.answer_for.Goals as goal
 
@@ -17,5 +19,5 @@ returns c =
       e
           ∙ check_is input (take (end.result - 0) (drop 0 input)) (take (length input - end.result) (drop end.result input)) end.result words.result
           end.ensures.0 (first_part input end.result) (last_part input end.result) words.ensures,
-      subst (λ (x : Answer). Small x) (sym e) (answer_small _ _ _),
+      subst (λ (x : Result Verdict Refusal). IfOk x SmallVerdict) (sym e) (verdict_fits _ _ _),
     )

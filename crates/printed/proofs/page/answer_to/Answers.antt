@@ -1,10 +1,7 @@
 -- `printed::page::answer_to` meets its contract.
-use mathlib.Core.Path.{sym, ◌∙◌}
-use Prim.Native.Nat.{◌-◌, ◌<◌}
-use mathlib.Core.Path.{subst}
+use mathlib.Core.Path.{◌∙◌}
+use Prim.Native.Nat.{◌-◌}
 use lib.ListN.{length, take, drop}
-use Rattle.checker.specs.declared.table.TableAnswer.{TableAnswer}
-use Rattle.checker.proofs.Bounds.{table_small}
 use Rattle.printed.proofs.Answers.{first_part, last_part, answer_is}
 use Rattle.printed.proofs.page.answer_to.Goals as goal
 
@@ -15,9 +12,6 @@ returns c =
     let body = take (length input - from.result) (drop from.result input) in
     let end = c.split-end.result in
     let words = c.lent_words-words.result in
-    let e = c.table.ensures.value in (
-      e
-          ∙ answer_is input body (take (end - 0) (drop 0 body)) (take (length body - end) (drop end body)) _ _ _ _ end words (last_part input from.result ∙ from.ensures.0) c.split-end.ensures.0 (first_part body end) (last_part body end)
-          c.word_at-node.ensures.0 c.byte_at-p0.ensures.0 c.byte_at-p1.ensures.0 c.byte_at-p2.ensures.0 c.lent_words-words.ensures,
-      subst (λ (r : TableAnswer). r.refused < 100) (sym e) (table_small _ _ _ _ _ _ _),
-    )
+    c.table.ensures.value
+    ∙ answer_is input body (take (end - 0) (drop 0 body)) (take (length body - end) (drop end body)) _ _ _ _ end words (last_part input from.result ∙ from.ensures.0) c.split-end.ensures.0 (first_part body end) (last_part body end)
+    c.word_at-node.ensures.0 c.byte_at-p0.ensures.0 c.byte_at-p1.ensures.0 c.byte_at-p2.ensures.0 c.lent_words-words.ensures

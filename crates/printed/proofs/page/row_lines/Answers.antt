@@ -8,25 +8,16 @@ use Rattle.printed.specs.Page.{table_byte, table_text}
 use Rattle.printed.proofs.page.row_lines.Goals as goal
 
 pub loop-k-init : goal.loop-k-init
-loop-k-init c = (omega arith, ap length c.blank-bytes.ensures ∙ length-replicate {A = ℕ} 1088 0, (λ j l. absurd (omega arith)))
-
-pub bounds-rows-b : goal.bounds-rows-b
-bounds-rows-b c = omega arith
-
-pub bounds-bytes-k : goal.bounds-bytes-k
-bounds-bytes-k c = omega arith
+loop-k-init c = (ap length c.blank-bytes.ensures ∙ length-replicate {A = ℕ} 1088 0, (λ j l. absurd (omega arith)))
 
 pub loop-k-preserved : goal.loop-k-preserved
 unfolding table_byte
 loop-k-preserved c =
-    let at = c.loop-k in (
-      omega arith,
-      length-set at.bytes at.k _ ∙ at.invariant.1,
-      copied_more (table_byte c.args.rows.now) at.bytes at.k _ (omega arith) c.row_byte.ensures at.invariant.2,
-    )
+    let at = c.loop-k in
+    (length-set at.bytes at.k _ ∙ at.invariant.0, copied_more (table_byte c.args.rows.now) at.bytes at.k _ (omega arith) c.row_byte.ensures at.invariant.1)
 
 pub returns : goal.returns
 unfolding table_text
 returns c =
     let at = c.loop-k in
-    copied_all (table_byte c.args.rows.now) 1088 at.bytes at.k (omega arith) at.invariant.1 at.invariant.2
+    copied_all (table_byte c.args.rows.now) 1088 at.bytes at.k (omega arith) at.invariant.0 at.invariant.1

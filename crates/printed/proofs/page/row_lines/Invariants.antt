@@ -1,12 +1,9 @@
 -- `printed::page::row_lines` meets its contract.
-use Prim.Native.Nat.{ℕ, ◌-◌, ◌≤◌, ◌<◌}
+use Prim.Native.Nat.{ℕ, ◌<◌}
 use mathlib.Core.Path.{◌≡◌}
 use lib.ListN.{length, get_or}
 use Rattle.printed.specs.Page.{table_byte}
 use Rattle.printed.proofs.page.row_lines.Given as goal
 
 abbrev pub invariant-loop-k : goal.invariant-loop-k
-invariant-loop-k l = (l.k ≤ 1088) × (length l.bytes ≡ 1088) × ((j : ℕ) → j < l.k → get_or l.bytes j 0 ≡ table_byte l.rows j)
-
-abbrev pub decreases-loop-k : goal.decreases-loop-k
-decreases-loop-k l = 1088 - l.k
+invariant-loop-k l = (length l.bytes ≡ 1088) × ((j : ℕ) → j < l.k → get_or l.bytes j 0 ≡ table_byte l.rows j)

@@ -3,10 +3,12 @@ use Prim.Native.Nat.{ℕ}
 use mathlib.Core.Path.{sym, ◌∙◌, ap, subst}
 use lib.ListN.{replicate, length-replicate}
 use Rattle.stored.specs.Layout.{least_words}
-use Rattle.checker.specs.declared.check.Answer.{Answer}
-use Rattle.checker.specs.Small.{Small}
+use Rattle.std.specs.Prelude.{Result, IfOk}
+use Rattle.stored.specs.declared.refusal.Refusal.{Refusal}
+use Rattle.checker.specs.declared.check.Verdict.{Verdict}
+use Rattle.checker.specs.Small.{SmallVerdict}
 use Rattle.board.specs.Board.{feed_answer, next_board}
-use Rattle.board.proofs.Answers.{feed_small}
+use Rattle.board.proofs.Answers.{feed_fits}
 use Rattle.board.proofs.Feeds.{next_over_lem, answer_over}
 use Rattle.printed.specs.Line.{line_text, line_of}
 use Rattle.printed.specs.Wall.{minute_answer, minute_board}
@@ -14,7 +16,7 @@ use Rattle.printed.proofs.wall.minute_line.Goals as goal
 
 pub answer_line-line-requires : goal.answer_line-line-requires
 answer_line-line-requires c =
-    subst (λ (x : Answer). Small x) (sym c.feed-fed.ensures.answer_value) (feed_small _ _ _)
+    subst (λ (x : Result Verdict Refusal). IfOk x SmallVerdict) (sym c.feed-fed.ensures.answer_value) (feed_fits _ _ _)
 
 pub returns : goal.returns
 unfolding minute_answer minute_board
@@ -29,7 +31,7 @@ returns c =
       board_value = fed.board_value ∙ next_over_lem a.board cycle.result words.result enough long ∙ ap (λ (w : ℕ). next_board a.board w enough) cycle.ensures.0;
       line_value = (
         line.0
-            ∙ ap (λ (x : Answer). line_of (line_text x))
+            ∙ ap (λ (x : Result Verdict Refusal). line_of (line_text x))
             (fed.answer_value ∙ answer_over a.board cycle.result words.result enough long ∙ ap (λ (w : ℕ). feed_answer a.board w enough) cycle.ensures.0),
         line.1,
       );

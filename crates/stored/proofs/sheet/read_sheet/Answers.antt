@@ -4,7 +4,7 @@ use mathlib.Core.Path.{◌≡◌, sym, ◌∙◌, ap}
 use native.Mathlib.Omega.{arith}
 use mathlib.Core.Bool.{true}
 use borrow.Author.Tests.{eq-eqb, ne_eqb}
-use Rattle.stored.specs.declared.SheetAnswer.TheVariants.{Accepted}
+use Rattle.std.specs.Prelude.{Ok}
 use Rattle.stored.specs.Sheet.{header_of, node_part, clause_part, nodes_of, stored_of, framed, versioned, of_kind_one, counted, sized, nodes_right, operands_found, clauses_right, clauses_named}
 use Rattle.stored.proofs.Accepted.{Counts, counts}
 use Rattle.stored.proofs.Answer.{Framed, Sized, framed_long, covered_named, refused1, refused2, refused3, refused4, refused5, refused6, refused7, refused8, refused9, accepted}
@@ -162,5 +162,5 @@ returns-then-not-clauses_covered c = refused9 _ (size c.before.before.before.bef
 
 pub returns : goal.returns
 returns c =
-    ap Accepted c.header-h.ensures
+    ap Ok c.header-h.ensures
     ∙ accepted _ (size c.before.before.before.before.before.before.before.before.before.before.before) (rule6 c.before.before.before.before.before.before.before) (rule7 c.before.before.before.before.before) (rule8 c.before.before.before) (told9 c.before.before ∙ c.if-not-clauses_covered.false)

@@ -1,8 +1,10 @@
 -- `text::read::read_text` meets its contract.
 use borrow.Author.Tests.{not-true, not-false}
 use native.Mathlib.Omega.{arith}
-use Rattle.text.proofs.Text.{read_deep, unended_outside, unread_outside, nothing_refused, read_by_number, read_whole}
-use mathlib.Core.Path.{sym, ◌∙◌}
+use Rattle.text.proofs.Text.{read_deep, unended_outside, unread_outside, nothing_refused, read_judged, read_whole}
+use mathlib.Core.Path.{sym}
+use Rattle.std.proofs.lemmas.Result.{err_from_is_err_and}
+use Rattle.stored.proofs.Refusals.{of_value}
 use Rattle.text.proofs.read.read_text.Goals as goal
 
 pub returns-then-too_deep : goal.returns-then-too_deep
@@ -20,17 +22,19 @@ returns-then-not-said c =
     unread_outside _ _ _ c.too_deep.ensures c.if-too_deep.false _ _ _ _ said.result empty_nodes empty_clauses
     said.ensures (not-true _ c.if-not-said.true)
 
-pub returns-then-number-ne0 : goal.returns-then-number-ne0
-returns-then-number-ne0 c =
+pub returns-in_err-judge : goal.returns-in_err-judge
+returns-in_err-judge c =
     let said = c.sheet-said in
     let empty_nodes = c.no_nodes-nodes.ensures in
     let empty_clauses = c.no_clauses-clauses.ensures in
-    read_by_number _ _ _ c.too_deep.ensures c.if-too_deep.false _ _ _ _ said.result empty_nodes empty_clauses said.ensures _
-    c.ends_line.ensures (c.if-not-ends_line.false) (not-false _ c.if-not-said.false) _ c.refusal-number.ensures c.if-number-ne0.true
+    let p = err_from_is_err_and c.from_residual.result c.from_residual.ensures.1 in
+    rw (p.1, p.2)
+    (read_judged _ _ _ c.too_deep.ensures c.if-too_deep.false _ _ _ _ said.result empty_nodes empty_clauses said.ensures _
+    c.ends_line.ensures (c.if-not-ends_line.false) (not-false _ c.if-not-said.false) _ (sym c.in_err-judge.ensures))
 
 pub assemble-requires : goal.assemble-requires
 assemble-requires c =
-    let free = nothing_refused _ _ _ _ _ _ _ (sym c.refusal-number.ensures ∙ c.if-number-ne0.false) in
+    let free = nothing_refused _ _ _ _ _ _ _ (of_value _ _ _ (sym c.in_ok-judge.ensures)).0 in
     let few = free.few_nodes in
     let fewer = free.few_clauses in
     let room = free.room in
@@ -42,6 +46,4 @@ returns c =
     let empty_nodes = c.no_nodes-nodes.ensures in
     let empty_clauses = c.no_clauses-clauses.ensures in
     read_whole _ _ _ c.too_deep.ensures c.if-too_deep.false _ _ _ _ said.result empty_nodes empty_clauses said.ensures _
-    c.ends_line.ensures (c.if-not-ends_line.false) (not-false _ c.if-not-said.false) _
-    c.refusal-number.ensures
-    c.if-number-ne0.false _ _ c.assemble.ensures
+    c.ends_line.ensures (c.if-not-ends_line.false) (not-false _ c.if-not-said.false) _ _ (sym c.in_ok-judge.ensures) c.assemble.ensures
