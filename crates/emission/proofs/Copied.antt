@@ -201,8 +201,8 @@ drawing_told {y} n ready fits drawing right =
     let s = (header_of y).signals in
     let m = (header_of y).names in
     drawing_cases (DrawingTold y n)
-    (λ q a. symbol_told ready (symbol_of n.q) (ltb-true _ _ (and_left (ltb n.a s) true a)))
-    (λ q a. mark_told ready (ltb-true _ _ (and_left (ltb n.a m) true a)))
+    (λ q a. symbol_told ready (symbol_of n.q) (ltb-true _ _ a))
+    (λ q a. mark_told ready (ltb-true _ _ a))
     (λ q a. gap_told ready (ltb-true _ _ (and_left (ltb (n.q / 16) m) _ q)) (ltb-true _ _ (and_right (ltb (n.q / 16) m) _ q)) fits.a_fits fits.b_fits)
     n drawing (q_right requirement_sorts s m n right) (a_right requirement_sorts s m n right)
 

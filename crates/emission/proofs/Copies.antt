@@ -13,6 +13,8 @@ use Rattle.semantics.specs.Proposition.{Proposition, negated, both_of, either_of
 use Rattle.semantics.specs.Formula.{Formula, point, stretch, whole, unit, chop, conjunction, disjunction, star, scount, sdur, negation, for_some}
 use Rattle.semantics.proofs.Tests.{test, and_left, and_right, and_intro}
 use Rattle.stored.specs.declared.Node.{Node}
+use Rattle.stored.specs.declared.nodes.Use.{Use}
+use Rattle.stored.specs.declared.nodes.Use.TheVariants.{Nothing, Signal, Name, Comparison, Symbol, TwoNames, Number, PropositionNode, FormulaNode}
 use Rattle.stored.specs.Bytes.{word}
 use Rattle.stored.specs.Node.{emitted_sorts, sort_of, q_use, a_use, b_use, is_operand, node_at, field_right, fields_right, operand_right}
 use Rattle.stored.specs.Tree.{comparison_of, PropositionOp, FormulaOp, proposition_op, formula_op, proposition_of, formula_of}
@@ -27,13 +29,26 @@ use Rattle.plans.proofs.Steps.{has_kept, proposition_kept, Addable, Added}
 use Rattle.plans.proofs.Nodes.{of_formula, of_proposition, new_proposition, new_formula}
 use Rattle.emission.specs.Copying.{mapped_to, copied_node}
 
+-- a field that is no operand is right as one
+no_operand : (x : ℕ → Node) (i : ℕ) (what : Use) (v : ℕ) → is_operand what ≡ false → operand_right emitted_sorts x i what v ≡ true
+unfolding is_operand operand_right
+no_operand x i Nothing v e = refl
+no_operand x i Signal v e = refl
+no_operand x i Name v e = refl
+no_operand x i Comparison v e = refl
+no_operand x i Symbol v e = refl
+no_operand x i TwoNames v e = refl
+no_operand x i Number v e = refl
+no_operand x i PropositionNode v e = absurd (true≢false e)
+no_operand x i FormulaNode v e = absurd (true≢false e)
+
 -- ---- fields
 -- an operand that the map gives, where earlier nodes are the propositions p and the formulas f
-pub record Given (y map : List ℕ) (p : ℕ → Proposition) (f : ℕ → Formula) (what v : ℕ) : Type 0 where
-  pub proposition : what ≡ 7 → HasProposition y (entry_of map v) (p v)
-  pub formula : what ≡ 8 → Has y (entry_of map v) (f v)
+pub record Given (y map : List ℕ) (p : ℕ → Proposition) (f : ℕ → Formula) (what : Use) (v : ℕ) : Type 0 where
+  pub proposition : what ≡ PropositionNode → HasProposition y (entry_of map v) (p v)
+  pub formula : what ≡ FormulaNode → Has y (entry_of map v) (f v)
 
-module _ {y map : List ℕ} {p : ℕ → Proposition} {f : ℕ → Formula} (what v : ℕ) (h : Given y map p f what v) where
+module _ {y map : List ℕ} {p : ℕ → Proposition} {f : ℕ → Formula} (what : Use) (v : ℕ) (h : Given y map p f what v) where
   given_below : is_operand what ≡ true → entry_of map v < count y
   given_below e =
       elim (use-of what e) [
@@ -64,20 +79,15 @@ module _ {y map : List ℕ} {p : ℕ → Proposition} {f : ℕ → Formula} (wha
       value e = rw e
 
   given_operand : operand_right emitted_sorts (node_in y) (count y) what (mapped_to map what v) ≡ true
-  unfolding mapped_to operand_right is_operand
+  unfolding mapped_to
   given_operand =
       elim (test (is_operand what)) [
         | inl e ↦ elim (use-of what e) [
-          | as_proposition u ↦ rw u (of_proposition (h.proposition u))
-          | as_formula u ↦ rw u (of_formula (h.formula u))
+          | as_proposition u ↦ rw (e, u) (of_proposition (h.proposition u))
+          | as_formula u ↦ rw (e, u) (of_formula (h.formula u))
         ]
-        | inr e ↦ no_operand (eqb what 7) (eqb what 8) _ _ e
+        | inr e ↦ no_operand (node_in y) (count y) what _ e
       ]
-    where
-      no_operand : (a b c d : Bool) → (a || b) ≡ false → ((not a || c) && (not b || d)) ≡ true
-      no_operand true b c d g = absurd (true≢false g)
-      no_operand false true c d g = absurd (true≢false g)
-      no_operand false false c d g = refl
 
 -- rule 6, opened
 module _ (sorts : List ℕ) (s m : ℕ) (n : Node) (right : fields_right sorts s m n ≡ true) where
@@ -139,8 +149,8 @@ copied_as map k n = record { op = n.op; q = n.q; a = mapped_to map (a_use k) n.a
 
 CopiedProposition : List ℕ → Node → (ℕ → Proposition) → (ℕ → Proposition) → ℕ → Type 0
 CopiedProposition map n p p' k =
-    (a_use k ≡ 7 → p' (entry_of map n.a) ≡ p n.a)
-    → (b_use k ≡ 7 → p' (entry_of map n.b) ≡ p n.b)
+    (a_use k ≡ PropositionNode → p' (entry_of map n.a) ≡ p n.a)
+    → (b_use k ≡ PropositionNode → p' (entry_of map n.b) ≡ p n.b)
     → proposition_of (proposition_op k) (copied_as map k n) p' ≡ proposition_of (proposition_op k) n p
 
 copied_proposition : (map : List ℕ) (n : Node) (p p' : ℕ → Proposition) (k : ℕ) → CopiedProposition map n p p' k
@@ -159,9 +169,9 @@ copied_proposition map n p p' k =
 
 CopiedFormula : List ℕ → Node → (ℕ → Proposition) → (ℕ → Proposition) → (ℕ → Formula) → (ℕ → Formula) → ℕ → Type 0
 CopiedFormula map n p p' f f' k =
-    (a_use k ≡ 7 → p' (entry_of map n.a) ≡ p n.a)
-    → (a_use k ≡ 8 → f' (entry_of map n.a) ≡ f n.a)
-    → (b_use k ≡ 8 → f' (entry_of map n.b) ≡ f n.b)
+    (a_use k ≡ PropositionNode → p' (entry_of map n.a) ≡ p n.a)
+    → (a_use k ≡ FormulaNode → f' (entry_of map n.a) ≡ f n.a)
+    → (b_use k ≡ FormulaNode → f' (entry_of map n.b) ≡ f n.b)
     → formula_of (formula_op k) (copied_as map k n) p' f' ≡ formula_of (formula_op k) n p f
 
 copied_formula : (map : List ℕ) (n : Node) (p p' : ℕ → Proposition) (f f' : ℕ → Formula) (k : ℕ) → CopiedFormula map n p p' f f' k

@@ -5,6 +5,7 @@ use Rattle.semantics.specs.Formula.{Formula}
 use Rattle.semantics.specs.Cycles.{count_below}
 use Rattle.semantics.specs.Translation.{nothing, undrawn}
 use Rattle.stored.specs.declared.Node.{Node}
+use Rattle.stored.specs.declared.nodes.Use.{Use}
 use Rattle.stored.specs.Layout.{node_size, most_nodes}
 use Rattle.stored.specs.Node.{requirement_sorts, sort_of, a_use, b_use, is_operand, node_at, fields_right, operands_right}
 use Rattle.stored.specs.Tree.{proposition_at, formula_op, formula_of, formula_at}
@@ -25,7 +26,7 @@ abbrev pub Mapped : (ℕ → Node) → ℕ → List ℕ → List ℕ → Type 0
 Mapped x i y map = (k : ℕ) → k < i → Stands x k y (entry_of map k)
 
 -- a field of value v, used so, in the copy
-unfoldable pub mapped_to : List ℕ → ℕ → ℕ → ℕ
+unfoldable pub mapped_to : List ℕ → Use → ℕ → ℕ
 mapped_to map what v = cond (is_operand what) (entry_of map v) v
 
 unfoldable pub copied_node : List ℕ → Node → Node

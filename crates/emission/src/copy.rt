@@ -10,16 +10,19 @@ ghost use Rattle.emission.specs.Copying.{Mapped, mapped_to, copied_node, drawing
 
 use crate::drawing;
 use plans::node;
+use stored::nodes::Use;
 use stored::{Node, layout, masks, nodes, ops};
 
 // Field v of a node, used so: an operand is the node that stands for it.
-fn mapped(map: &[usize], what: usize, v: usize) -> usize
+#[tactic(auto, unfolding(crate::specs::Copying::mapped_to))]
+fn mapped(map: &[usize], what: Use, v: usize) -> usize
     ensures { result ≡ mapped_to map.now what v }
 {
-    if (what == 7) | (what == 8) {
-        return masks::entry_of(map, v);
+    if what.is_operand() {
+        masks::entry_of(map, v)
+    } else {
+        v
     }
-    v
 }
 
 // Node x, where the map gives the nodes that stand for its operands.

@@ -9,6 +9,7 @@ use lib.Dec.{eqb}
 use Rattle.semantics.specs.Proposition.{Proposition, signal, name, negated}
 use Rattle.semantics.specs.Formula.{Formula, point, stretch, unit, chop, conjunction, disjunction, slen, scount, negation, for_some, equal}
 use Rattle.stored.specs.declared.Node.{Node}
+use Rattle.stored.specs.declared.nodes.Use.TheVariants.{PropositionNode, FormulaNode}
 use Rattle.stored.specs.Node.{emitted_sorts, sort_of, sort_below, q_use, a_use, b_use, field_right, fields_right, operand_right}
 use Rattle.stored.specs.Tree.{proposition_op, formula_op, proposition_of, formula_of, comparison_of}
 use Rattle.stored.specs.Sheet.{header_of}
@@ -29,13 +30,13 @@ sort_is : (y : List ℕ) (a k : ℕ) → a < count y → sort_of emitted_sorts (
 unfolding sort_below
 sort_is y a k h e = rw (lt-ltb a (count y) h) (eq-eqb _ k e)
 
-pub of_formula : {y : List ℕ} {a : ℕ} {f : Formula} → Has y a f → operand_right emitted_sorts (node_in y) (count y) 8 a ≡ true
+pub of_formula : {y : List ℕ} {a : ℕ} {f : Formula} → Has y a f → operand_right emitted_sorts (node_in y) (count y) FormulaNode a ≡ true
 unfolding operand_right
 of_formula {y} {a} h = sort_is y a 2 h.below h.sorted
 
-pub of_proposition : {y : List ℕ} {a : ℕ} {p : Proposition} → HasProposition y a p → operand_right emitted_sorts (node_in y) (count y) 7 a ≡ true
+pub of_proposition : {y : List ℕ} {a : ℕ} {p : Proposition} → HasProposition y a p → operand_right emitted_sorts (node_in y) (count y) PropositionNode a ≡ true
 unfolding operand_right
-of_proposition {y} {a} h = rw (sort_is y a 1 h.below h.sorted)
+of_proposition {y} {a} h = sort_is y a 1 h.below h.sorted
 
 -- ---- the tree of a new node
 module _ {x y : List ℕ} {r : ℕ} {n : Node} (new : Added x y r n) where
@@ -93,7 +94,7 @@ module _ {x : List ℕ} (good : Good x) (room : count x < most_emitted) where
 
   -- two formulas
   pair_new : {y : List ℕ} {r a b : ℕ} {f g : Formula} (op : ℕ) (t : Formula → Formula → Formula) → op < 256
-      → fields_right emitted_sorts (header_of x).signals (header_of x).names (node op 0 a b) ≡ true → a_use op ≡ 8 → b_use op ≡ 8
+      → fields_right emitted_sorts (header_of x).signals (header_of x).names (node op 0 a b) ≡ true → a_use op ≡ FormulaNode → b_use op ≡ FormulaNode
       → sort_of emitted_sorts op ≡ 2 → ((p : ℕ → Proposition) (h : ℕ → Formula) → formula_of (formula_op op) (node op 0 a b) p h ≡ t (h a) (h b))
       → Has x a f → Has x b g → Put (node op 0 a b) x y r → Emits x y r 1 (t f g)
   pair_new {y} {a = a} {b = b} op t o right i j sort made h k put =
@@ -131,7 +132,7 @@ module _ {x : List ℕ} (good : Good x) (room : count x < most_emitted) where
 
   -- one proposition
   over_new : {y : List ℕ} {r a : ℕ} {p : Proposition} (op q b : ℕ) (t : Proposition → Formula) → op < 256 → q < 256 → b < 65536
-      → fields_right emitted_sorts (header_of x).signals (header_of x).names (node op q a b) ≡ true → a_use op ≡ 7
+      → fields_right emitted_sorts (header_of x).signals (header_of x).names (node op q a b) ≡ true → a_use op ≡ PropositionNode
       → operand_right emitted_sorts (node_in x) (count x) (b_use op) b ≡ true → sort_of emitted_sorts op ≡ 2
       → ((h : ℕ → Proposition) (f : ℕ → Formula) → formula_of (formula_op op) (node op q a b) h f ≡ t (h a))
       → HasProposition x a p → Put (node op q a b) x y r → Emits x y r 1 (t p)

@@ -12,6 +12,8 @@ use Rattle.semantics.specs.Proposition.{Proposition}
 use Rattle.semantics.specs.Formula.{Formula}
 use Rattle.semantics.proofs.Tests.{test, and_intro, and_left, and_right}
 use Rattle.stored.specs.declared.Node.{Node}
+use Rattle.stored.specs.declared.nodes.Use.{Use}
+use Rattle.stored.specs.declared.nodes.Use.TheVariants.{Nothing, Signal, Name, Comparison, Symbol, TwoNames, Number, PropositionNode, FormulaNode}
 use Rattle.stored.specs.declared.Header.{Header}
 use Rattle.stored.specs.Bytes.{word}
 use Rattle.stored.specs.Layout.{emitted_kind, nodes_start, nodes_end, following, least_output}
@@ -117,9 +119,17 @@ sort_same x y i v h = go (ltb v i) (λ e. h v (ltb-true v i e))
     go true e = ap (λ (n : Node). sort_of emitted_sorts n.op) (e refl)
     go false e = refl
 
-operand_same : (x y : ℕ → Node) (i what v : ℕ) → ((k : ℕ) → k < i → y k ≡ x k) → operand_right emitted_sorts y i what v ≡ operand_right emitted_sorts x i what v
+operand_same : (x y : ℕ → Node) (i : ℕ) (what : Use) (v : ℕ) → ((k : ℕ) → k < i → y k ≡ x k) → operand_right emitted_sorts y i what v ≡ operand_right emitted_sorts x i what v
 unfolding operand_right
-operand_same x y i what v h = rw (sort_same x y i v h)
+operand_same x y i PropositionNode v h = ap (λ (sort : ℕ). eqb sort 1) (sort_same x y i v h)
+operand_same x y i FormulaNode v h = ap (λ (sort : ℕ). eqb sort 2) (sort_same x y i v h)
+operand_same x y i Nothing v h = refl
+operand_same x y i Signal v h = refl
+operand_same x y i Name v h = refl
+operand_same x y i Comparison v h = refl
+operand_same x y i Symbol v h = refl
+operand_same x y i TwoNames v h = refl
+operand_same x y i Number v h = refl
 
 pub operands_same : (x y : ℕ → Node) (i : ℕ) → ((k : ℕ) → k ≤ i → y k ≡ x k) → operands_right emitted_sorts y i ≡ operands_right emitted_sorts x i
 unfolding operands_right

@@ -11,6 +11,7 @@ use lib.ListN.{length, set}
 use lib.Seq.{get_or-set_same, get_or-set_other}
 use Rattle.semantics.proofs.Tests.{test, and_left, and_right, and_intro, or_elim, or_left, or_right}
 use Rattle.stored.specs.declared.Node.{Node}
+use Rattle.stored.specs.declared.nodes.Use.{Use}
 use Rattle.stored.specs.Node.{emitted_sorts, sort_of, is_operand, a_use, b_use, fields_right, operands_right}
 use Rattle.stored.specs.Tree.{proposition_at, formula_at}
 use Rattle.stored.specs.Reach.{entry_of}
@@ -28,7 +29,7 @@ use Rattle.emission.proofs.Copies.{Given, some_sort, may_copy, is_proposition_co
 use Rattle.pruning.specs.Pruned.{Live, MarkedFrom, Same, KeptAt, passed, kept, PrunedTo, Drafted}
 
 -- ---- the copy of a node has the copies of its operands
-field_copied : (map : List ℕ) (what v k : ℕ) → is_node what v k ≡ true → is_node what (mapped_to map what v) (entry_of map k) ≡ true
+field_copied : (map : List ℕ) (what : Use) (v k : ℕ) → is_node what v k ≡ true → is_node what (mapped_to map what v) (entry_of map k) ≡ true
 unfolding is_node mapped_to
 field_copied map what v k e =
     let is = and_left (is_operand what) _ e in

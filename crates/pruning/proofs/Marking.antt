@@ -11,6 +11,7 @@ use lib.ListN.{length, length-set, set, replicate, length-replicate, get_or-repl
 use lib.Seq.{get_or-set_same, get_or-set_other}
 use Rattle.semantics.proofs.Tests.{test, and_left, and_right, and_intro, or_elim, or_left, or_right}
 use Rattle.stored.specs.declared.Node.{Node}
+use Rattle.stored.specs.declared.nodes.Use.{Use}
 use Rattle.stored.specs.Node.{emitted_sorts, is_operand, a_use, b_use, operands_right}
 use Rattle.stored.specs.Reach.{entry_of}
 use Rattle.stored.specs.Reached.{is_node, has_operand}
@@ -42,7 +43,7 @@ module _ (marks : List ℕ) (v : ℕ) (inside : v < length marks) where
       ]
 
 -- ---- the mark of a field
-module _ (marks : List ℕ) (what v : ℕ) where
+module _ (marks : List ℕ) (what : Use) (v : ℕ) where
   marked_length : length (marked marks what v) ≡ length marks
   unfolding marked
   marked_length = go (is_operand what && ltb v (length marks))

@@ -1,6 +1,7 @@
 -- A drafted formula, and the one that is written: its nodes that the root reaches, in their order.
 use Rattle.std.specs.Prelude.{ℕ, ◌+◌, ◌≤◌, ◌<◌, true, cond, ◌&&◌, List, ◌≡◌, eqb, ltb, length, set}
 use Rattle.stored.specs.declared.Node.{Node}
+use Rattle.stored.specs.declared.nodes.Use.{Use}
 use Rattle.stored.specs.Node.{emitted_sorts, sort_of, is_operand, a_use, b_use}
 use Rattle.stored.specs.Tree.{proposition_at, formula_at}
 use Rattle.stored.specs.Reach.{entry_of}
@@ -16,7 +17,7 @@ abbrev pub Live : List ℕ → ℕ → Type 0
 Live marks i = entry_of marks i ≡ 1
 
 -- the marks with that of a field of value v, used so
-unfoldable pub marked : List ℕ → ℕ → ℕ → List ℕ
+unfoldable pub marked : List ℕ → Use → ℕ → List ℕ
 marked marks what v = cond (is_operand what && ltb v (length marks)) (set marks v 1) marks
 
 -- and with those of the operands of n

@@ -1,12 +1,13 @@
 // Marks the nodes that the root of a drafted formula reaches.
 ghost use Rattle.std.specs.Prelude.{true, ◌≡◌, ℕ, ◌+◌, ◌≤◌, ◌<◌, length};
 ghost use Rattle.stored.specs.Layout.{nodes_end};
-ghost use Rattle.stored.specs.Node.{is_operand, emitted_sorts, operands_right};
+ghost use Rattle.stored.specs.Node.{emitted_sorts, operands_right};
 ghost use Rattle.stored.specs.Reach.{entry_of};
 ghost use Rattle.stored.specs.Written.{node_in};
 ghost use Rattle.pruning.specs.Pruned.{marked, marked_node, marked_at, MarkedFrom};
 
 use stored::masks::entry_of;
+use stored::nodes::Use;
 use stored::{Node, layout, nodes};
 
 // Node i of a draft.
@@ -17,19 +18,12 @@ pub fn node_in(draft: &[u8], i: usize) -> Node
     nodes::node_at(&draft[layout::NODES_START..], i)
 }
 
-// Whether a field used so is the number of a node.
-fn is_operand(what: usize) -> bool
-    ensures { result ≡ is_operand what }
-{
-    (what == 7) | (what == 8)
-}
-
 // Field v of a node, used so: the node that it is, if it is one.
-fn mark(marks: &mut [usize], what: usize, v: usize)
+fn mark(marks: &mut [usize], what: Use, v: usize)
     ensures { marks.new ≡ marked marks.old what v }
 {
     let inside = v < marks.len();
-    if is_operand(what) & inside {
+    if what.is_operand() & inside {
         marks[v] = 1;
     }
 }

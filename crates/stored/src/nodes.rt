@@ -2,7 +2,7 @@
 ghost use Rattle.std.specs.Prelude.{◌≡◌, ◌+◌, ◌*◌, ◌≤◌, ◌<◌, length};
 ghost use Rattle.stored.specs.Bytes.{every_below};
 ghost use Rattle.stored.specs.Layout.{node_size};
-ghost use Rattle.stored.specs.Node.{node_at, requirement_sorts, sort_of, q_use, a_use, b_use, field_right, fields_right, node_right, sort_below, operand_right, operands_right, is_formula_node};
+ghost use Rattle.stored.specs.Node.{node_at, requirement_sorts, sort_of, q_use, a_use, b_use, is_operand, field_right, fields_right, node_right, sort_below, operand_right, operands_right, is_formula_node};
 
 use crate::bytes::listed;
 use crate::{Node, bytes, layout, ops};
@@ -24,6 +24,19 @@ pub enum Use {
     Number,
     PropositionNode,
     FormulaNode,
+}
+
+impl Use {
+    // Whether a field used so is the number of a node.
+    #[tactic(auto, unfolding(crate::specs::Node::is_operand))]
+    pub fn is_operand(self) -> bool
+        ensures { result ≡ is_operand self }
+    {
+        match self {
+            Use::PropositionNode | Use::FormulaNode => true,
+            _ => false,
+        }
+    }
 }
 
 pub fn sort_of(op: usize) -> usize

@@ -16,6 +16,7 @@ use Rattle.semantics.specs.Verdict.{same_role, fails_as, has_role, some_fails, r
 use Rattle.semantics.proofs.Tests.{and_right, and_intro}
 use Rattle.rows.proofs.Masks.{up_to_step}
 use Rattle.stored.specs.declared.Header.{Header}
+use Rattle.stored.specs.declared.nodes.Use.TheVariants.{Symbol}
 use Rattle.stored.specs.Bytes.{word, framed_from, in_order}
 use Rattle.stored.specs.Node.{field_right}
 use Rattle.stored.specs.Clause.{stored_at, part_of, clause_of}
@@ -56,10 +57,10 @@ in_byte_some v = go (leb v 255) refl
     go false e = let large = leb-false v 255 e in sym (le-leb 1 v (omega arith))
 
 -- rule 6 answers as it would for a drawing's symbol itself
-pub in_byte_symbol : (s m q : ℕ) → field_right s m 4 (in_byte q) ≡ field_right s m 4 q
+pub in_byte_symbol : (s m q : ℕ) → field_right s m Symbol (in_byte q) ≡ field_right s m Symbol q
 unfolding field_right
 in_byte_symbol s m q =
-    ap (λ (b : Bool). b && true) (up_to_step (in_byte q) 7 ∙ in_byte_most q 7 (omega arith) ∙ sym (up_to_step q 7))
+    up_to_step (in_byte q) 7 ∙ in_byte_most q 7 (omega arith) ∙ sym (up_to_step q 7)
 
 -- ---- any drafts x of the nodes and y of the clauses, of which no more are counted than were written
 pub record Whole (x y : Draft) : Type 0 where

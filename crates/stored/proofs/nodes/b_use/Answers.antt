@@ -25,6 +25,6 @@ returns-in_default-4 c =
     elim (test (ltb c.args.op 32)) [
       | inl e ↦ let below = ltb-true c.args.op 32 e in
           each_between Other 27 5 (λ p q. refl, (λ p q. refl, (λ p q. absurd (p refl), (λ p q. refl, (λ p q. absurd (q refl), tt)))))
-              c.args.op (omega arith) (omega arith) (λ h. omega arith) (λ h. omega arith)
+          c.args.op (omega arith) (omega arith) (λ h. omega arith) (λ h. omega arith)
       | inr e ↦ let past = ltb-false c.args.op 32 e in sym (get_or-eq_default b_uses Nothing past)
     ]
