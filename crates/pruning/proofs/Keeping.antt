@@ -1,14 +1,6 @@
 -- Keeping the marked nodes in their order: each becomes what it was, operands stay operands, and nothing else is written.
-use Prim.Native.Nat.{ℕ, zero, suc, ◌+◌, ◌≤◌, ◌<◌}
-use mathlib.Core.Bool.{true}
-use mathlib.Core.List.{List}
-use mathlib.Core.Logic.{inl, inr}
-use mathlib.Core.Path.{◌≡◌, refl, sym, ◌∙◌, ap, subst}
-use native.Mathlib.Omega.{arith}
-use borrow.Author.Tests.{eqb-true, eqb-false, eq-eqb}
-use lib.Dec.{eqb}
-use lib.ListN.{length, set}
-use lib.Seq.{get_or-set_same, get_or-set_other}
+use Rattle.std.proofs.Common.{ℕ, zero, suc, ◌+◌, ◌≤◌, ◌<◌, Bool, true, false, List, inl, inr, ◌≡◌, refl, sym, ◌∙◌, ap, subst, true≢false, arith, eqb-true, eq-eqb, eqb, length, set, get_or, get_or-set_same, get_or-set_other}
+use Rattle.std.proofs.lemmas.Bool.{eqb-false}
 use Rattle.semantics.proofs.Tests.{test, and_left, and_right, and_intro, or_elim, or_left, or_right}
 use Rattle.stored.specs.declared.Node.{Node}
 use Rattle.stored.specs.declared.nodes.Use.{Use}
@@ -26,7 +18,7 @@ use Rattle.plans.specs.Plan.{Put}
 use Rattle.plans.proofs.Steps.{steps, wider, has_kept, proposition_kept, Added, put_added}
 use Rattle.emission.specs.Copying.{mapped_to, copied_node}
 use Rattle.emission.proofs.Copies.{Given, some_sort, may_copy, is_proposition_copied, is_formula_copied}
-use Rattle.pruning.specs.Pruned.{Live, MarkedFrom, Same, KeptAt, passed, kept, PrunedTo, Drafted}
+use Rattle.pruning.specs.Pruned.{Live, MarkedFrom, Same, PrunedTo, Drafted}
 
 -- ---- the copy of a node has the copies of its operands
 field_copied : (map : List ℕ) (what : Use) (v k : ℕ) → is_node what v k ≡ true → is_node what (mapped_to map what v) (entry_of map k) ≡ true
@@ -45,20 +37,20 @@ operand_copied map n k e =
 
 -- ---- the first i nodes, of which the marked ones are kept
 -- node r came of a marked one
-pub record Came (marks map : List ℕ) (i r : ℕ) : Type 0 where
+pub record Came (marks : List Bool) (map : List ℕ) (i r : ℕ) : Type 0 where
   pub node : ℕ
   pub less : node < i
   pub live : Live marks node
   pub place : entry_of map node ≡ r
 
-pub record Kept (x : ℕ → Node) (marks : List ℕ) (i : ℕ) (y map : List ℕ) : Type 0 where
+pub record Kept (x : ℕ → Node) (marks : List Bool) (i : ℕ) (y map : List ℕ) : Type 0 where
   pub same : (k : ℕ) → k < i → Live marks k → Same x k y (entry_of map k)
   pub placed : (k : ℕ) → k < i → Live marks k → entry_of map k < count y
   pub linked : (j k : ℕ) → j < i → Live marks j → has_operand (x j) k ≡ true → has_operand (node_in y (entry_of map j)) (entry_of map k) ≡ true
   pub came : (r : ℕ) → r < count y → Came marks map i r
   pub last : (k : ℕ) → k + 1 ≡ i → Live marks k → count y ≡ entry_of map k + 1
 
-pub none_kept : {x : ℕ → Node} {marks y map : List ℕ} → count y ≡ 0 → Kept x marks 0 y map
+pub none_kept : {x : ℕ → Node} {marks : List Bool} {y map : List ℕ} → count y ≡ 0 → Kept x marks 0 y map
 none_kept e =
     record {
       same = λ k l live. absurd (omega arith);
@@ -82,31 +74,28 @@ same_kept : {x : ℕ → Node} {i k r : ℕ} {y z : List ℕ} → Step y z k →
 same_kept s h = record { proposition = λ e. proposition_kept s (h.proposition e); formula = λ e. has_kept s (h.formula e) }
 
 -- node i is passed over, or kept as node r of bytes that y became
-module _ {x : ℕ → Node} {marks y map : List ℕ} {i : ℕ} (r : ℕ) (right : (k : ℕ) → k ≤ i → operands_right emitted_sorts x k ≡ true) (h : Kept x marks i y map) where
-  pass_over : (Live marks i → ⊥) → Kept x marks (i + 1) y (set map i r)
+module _ {x : ℕ → Node} {marks : List Bool} {y map : List ℕ} {i : ℕ} (right : (k : ℕ) → k ≤ i → operands_right emitted_sorts x k ≡ true) (h : Kept x marks i y map) where
+  pass_over : get_or marks i false ≡ false → Kept x marks (i + 1) y map
   pass_over dead =
       record {
-        same = λ k l live. let less = earlier k l live in subst (Same x k y) (sym (entry_old map i r k less)) (h.same k less live);
-        placed = λ k l live. let less = earlier k l live in subst (λ (e : ℕ). e < count y) (sym (entry_old map i r k less)) (h.placed k less live);
-        linked = λ j k l live e.
-            let less = earlier j l live in
-            let below = operand_less emitted_sorts x j k (right j (omega arith)) e in
-            rw (entry_old map i r j less, entry_old map i r k (omega arith)) (h.linked j k less live e);
+        same = λ k l live. h.same k (earlier k l live) live;
+        placed = λ k l live. h.placed k (earlier k l live) live;
+        linked = λ j k l live e. h.linked j k (earlier j l live) live e;
         came = λ q l.
             let o = h.came q l in
             let less = o.less in
-            record { node = o.node; less = omega arith; live = o.live; place = entry_old map i r o.node less ∙ o.place };
+            record { node = o.node; less = omega arith; live = o.live; place = o.place };
         last = λ k e live. let less = earlier k (omega arith) live in absurd (omega arith);
       }
     where
       earlier : (k : ℕ) → k < i + 1 → Live marks k → k < i
       earlier k l live =
           elim (test (eqb k i)) [
-            | inl e ↦ absurd (dead (subst (Live marks) (eqb-true k i e) live))
+            | inl e ↦ absurd (true≢false (sym live ∙ ap (λ (o : ℕ). get_or marks o false) (eqb-true k i e) ∙ dead))
             | inr e ↦ let other = eqb-false k i e in omega arith
           ]
 
-  module _ {z : List ℕ} (fits : i < length map) (live-i : Live marks i) (new : Added y z r (copied_node map (x i))) (is : Same x i z r) where
+  module _ {z : List ℕ} {r : ℕ} (fits : i < length map) (live-i : Live marks i) (new : Added y z r (copied_node map (x i))) (is : Same x i z r) where
     entry_i : entry_of (set map i r) i ≡ r
     entry_i = entry_new map i r fits
 
@@ -166,7 +155,7 @@ module _ {x : ℕ → Node} {marks y map : List ℕ} {i : ℕ} (r : ℕ) (right 
         }
 
 -- ---- a marked node's operands are marked, so that the map gives them
-module _ {x : ℕ → Node} {marks y map : List ℕ} {root i : ℕ} (right : operands_right emitted_sorts x i ≡ true) (m : MarkedFrom x root 0 marks)
+module _ {x : ℕ → Node} {marks : List Bool} {y map : List ℕ} {root i : ℕ} (right : operands_right emitted_sorts x i ≡ true) (m : MarkedFrom x root 0 marks)
     (most : i ≤ root) (live : Live marks i) (h : Kept x marks i y map) where
   live_a : is_operand (a_use (x i).op) ≡ true → Live marks (x i).a
   unfolding has_operand is_node
@@ -211,21 +200,25 @@ module _ {x : ℕ → Node} {marks y map : List ℕ} {root i : ℕ} (right : ope
       }
 
 -- ---- the loop
-module _ {d x₀ marks : List ℕ} {root : ℕ} (drafted : Drafted d root x₀) (m : MarkedFrom (node_in d) root 0 marks) where
+module _ {d x₀ : List ℕ} {marks : List Bool} {root : ℕ} (drafted : Drafted d root x₀) (m : MarkedFrom (node_in d) root 0 marks) where
   draft_right : (k : ℕ) → k ≤ root → operands_right emitted_sorts (node_in d) k ≡ true
   draft_right k l = drafted.good.operands_right_holds k (omega (arith, drafted.last))
 
-  pub turn : {y z map : List ℕ} {i r : ℕ} → i ≤ root → length map ≡ most_emitted → Step x₀ y i → Kept (node_in d) marks i y map
-      → KeptAt marks map i (node_in d i) y z r → (Step x₀ z (i + 1)) × (Kept (node_in d) marks (i + 1) z (set map i r))
-  turn {i = i} {r = r} most long s h (passed dead) = (wider (i + 1) (omega arith) s, pass_over r (λ k l. draft_right k (omega arith)) h dead)
-  turn {y} {z} {map} {i} {r} most long s h (kept live fits put) =
+  -- a marked node is kept, and another passed over
+  pub turn_kept : {y z map : List ℕ} {i r : ℕ} → i ≤ root → length map ≡ most_emitted → Step x₀ y i → Kept (node_in d) marks i y map → Live marks i
+      → NodeFits (node_in d i) → Put (copied_node map (node_in d i)) y z r → (Step x₀ z (i + 1)) × (Kept (node_in d) marks (i + 1) z (set map i r))
+  turn_kept {y} {i = i} most long s h live fits put =
       let last = drafted.last in
       let few = drafted.good.few_nodes in
       let fields : fields_right emitted_sorts (header_of y).signals (header_of y).names (node_in d i) ≡ true
       = rw (s.signals, s.names, drafted.signals, drafted.names) (drafted.good.nodes_right_holds i (omega arith))
       in
       let new = copy_added (draft_right i most) m most live h s.good (omega (arith, s.few, drafted.none)) fits fields put in
-      (steps s new.step, keep_on r (λ k l. draft_right k (omega arith)) h (omega arith) live new (copy_same (draft_right i most) m most live h new))
+      (steps s new.step, keep_on (λ k l. draft_right k (omega arith)) h (omega arith) live new (copy_same (draft_right i most) m most live h new))
+
+  pub turn_passed : {y map : List ℕ} {i : ℕ} → i ≤ root → Step x₀ y i → Kept (node_in d) marks i y map → get_or marks i false ≡ false
+      → (Step x₀ y (i + 1)) × (Kept (node_in d) marks (i + 1) y map)
+  turn_passed {i = i} most s h dead = (wider (i + 1) (omega arith) s, pass_over (λ k l. draft_right k (omega arith)) h dead)
 
   -- every marked node is reached: it is the root, or an operand of a marked node after it
   live_reached : {y map : List ℕ} (z : ℕ → Node) → ((i : ℕ) → i < count y → z i ≡ node_in y i) → Kept (node_in d) marks (root + 1) y map

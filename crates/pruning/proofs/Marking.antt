@@ -1,41 +1,31 @@
--- Marking from the root down: one turn marks the operands of a marked node, which are earlier ones.
-use Prim.Native.Nat.{ℕ, ◌+◌, ◌≤◌, ◌<◌}
-use mathlib.Core.Bool.{Bool, true, false, cond, ◌&&◌}
-use mathlib.Core.List.{List}
-use mathlib.Core.Logic.{◌⊎◌, inl, inr}
-use mathlib.Core.Path.{◌≡◌, refl, sym, ◌∙◌, subst}
-use native.Mathlib.Omega.{arith}
-use borrow.Author.Tests.{eqb-true, eqb-false, eq-eqb, ltb-true, ltb-false, lt-ltb}
-use lib.Dec.{eqb, ltb}
-use lib.ListN.{length, length-set, set, replicate, length-replicate, get_or-replicate, get_or-eq_default}
-use lib.Seq.{get_or-set_same, get_or-set_other}
+-- Marking from the root down: a marked node marks its operands, which are earlier ones.
+use Rattle.std.proofs.Common.{ℕ, ◌+◌, ◌≤◌, ◌<◌, Bool, true, false, cond, ◌&&◌, List, ◌⊎◌, inl, inr, ◌≡◌, refl, sym, ◌∙◌, ap, subst, true≢false, arith, eqb-true, eq-eqb, ltb-true, ltb-false, lt-ltb, eqb, ltb, length, length-set, set, replicate, get_or, get_or-set_same, get_or-set_other}
+use Rattle.std.proofs.lemmas.Bool.{eqb-false}
+use Rattle.std.proofs.lemmas.List.{length-replicate, get_or-replicate, get_or_past}
 use Rattle.semantics.proofs.Tests.{test, and_left, and_right, and_intro, or_elim, or_left, or_right}
 use Rattle.stored.specs.declared.Node.{Node}
 use Rattle.stored.specs.declared.nodes.Use.{Use}
 use Rattle.stored.specs.Node.{emitted_sorts, is_operand, a_use, b_use, operands_right}
-use Rattle.stored.specs.Reach.{entry_of}
 use Rattle.stored.specs.Reached.{is_node, has_operand}
 use Rattle.stored.proofs.Ways.{operand_less}
-use Rattle.pruning.specs.Pruned.{Live, marked, marked_node, marked_at, Parent, MarkedFrom}
+use Rattle.pruning.specs.Pruned.{Live, marked, marked_node, Parent, MarkedFrom}
 
 -- ---- one mark
-module _ (marks : List ℕ) (v : ℕ) (inside : v < length marks) where
-  set_live : Live (set marks v 1) v
-  unfolding entry_of
-  set_live = get_or-set_same marks v 1 0 inside
+module _ (marks : List Bool) (v : ℕ) (inside : v < length marks) where
+  set_live : Live (set marks v true) v
+  set_live = get_or-set_same marks v true false inside
 
-  set_other : (k : ℕ) → (k ≡ v → ⊥) → entry_of (set marks v 1) k ≡ entry_of marks k
-  unfolding entry_of
-  set_other k other = get_or-set_other marks v k 1 0 other
+  set_other : (k : ℕ) → (k ≡ v → ⊥) → get_or (set marks v true) k false ≡ get_or marks k false
+  set_other k other = get_or-set_other marks v k true false other
 
-  set_mono : (k : ℕ) → Live marks k → Live (set marks v 1) k
+  set_mono : (k : ℕ) → Live marks k → Live (set marks v true) k
   set_mono k h =
       elim (test (eqb k v)) [
-        | inl e ↦ subst (Live (set marks v 1)) (sym (eqb-true k v e)) set_live
+        | inl e ↦ subst (Live (set marks v true)) (sym (eqb-true k v e)) set_live
         | inr e ↦ set_other k (eqb-false k v e) ∙ h
       ]
 
-  set_back : (k : ℕ) → Live (set marks v 1) k → (Live marks k) ⊎ (v ≡ k)
+  set_back : (k : ℕ) → Live (set marks v true) k → (Live marks k) ⊎ (v ≡ k)
   set_back k h =
       elim (test (eqb k v)) [
         | inl e ↦ inr (sym (eqb-true k v e))
@@ -43,20 +33,20 @@ module _ (marks : List ℕ) (v : ℕ) (inside : v < length marks) where
       ]
 
 -- ---- the mark of a field
-module _ (marks : List ℕ) (what : Use) (v : ℕ) where
+module _ (marks : List Bool) (what : Use) (v : ℕ) where
   marked_length : length (marked marks what v) ≡ length marks
   unfolding marked
   marked_length = go (is_operand what && ltb v (length marks))
     where
-      go : (b : Bool) → length (cond b (set marks v 1) marks) ≡ length marks
-      go true = length-set marks v 1
+      go : (b : Bool) → length (cond b (set marks v true) marks) ≡ length marks
+      go true = length-set marks v true
       go false = refl
 
   marked_mono : (k : ℕ) → Live marks k → Live (marked marks what v) k
   unfolding marked
   marked_mono k h = go (is_operand what && ltb v (length marks)) refl
     where
-      go : (b : Bool) → (is_operand what && ltb v (length marks)) ≡ b → Live (cond b (set marks v 1) marks) k
+      go : (b : Bool) → (is_operand what && ltb v (length marks)) ≡ b → Live (cond b (set marks v true) marks) k
       go true e = set_mono marks v (ltb-true v (length marks) (and_right (is_operand what) _ e)) k h
       go false e = h
 
@@ -65,14 +55,14 @@ module _ (marks : List ℕ) (what : Use) (v : ℕ) where
   marked_new k l e =
       let is : v ≡ k = eqb-true v k (and_right (is_operand what) _ e) in
       let inside : v < length marks = omega arith in
-      subst (λ (b : Bool). Live (cond b (set marks v 1) marks) k) (sym (and_intro _ _ (and_left (is_operand what) _ e) (lt-ltb v (length marks) inside)))
-      (subst (Live (set marks v 1)) is (set_live marks v inside))
+      subst (λ (b : Bool). Live (cond b (set marks v true) marks) k) (sym (and_intro _ _ (and_left (is_operand what) _ e) (lt-ltb v (length marks) inside)))
+      (subst (Live (set marks v true)) is (set_live marks v inside))
 
   marked_back : (k : ℕ) → Live (marked marks what v) k → (Live marks k) ⊎ (is_node what v k ≡ true)
   unfolding marked is_node
   marked_back k h = go (is_operand what && ltb v (length marks)) refl h
     where
-      go : (b : Bool) → (is_operand what && ltb v (length marks)) ≡ b → Live (cond b (set marks v 1) marks) k → (Live marks k) ⊎ ((is_operand what && eqb v k) ≡ true)
+      go : (b : Bool) → (is_operand what && ltb v (length marks)) ≡ b → Live (cond b (set marks v true) marks) k → (Live marks k) ⊎ ((is_operand what && eqb v k) ≡ true)
       go true e g =
           elim (set_back marks v (ltb-true v (length marks) (and_right (is_operand what) _ e)) k g) [
             | inl old ↦ inl old
@@ -81,7 +71,7 @@ module _ (marks : List ℕ) (what : Use) (v : ℕ) where
       go false e g = inl g
 
 -- ---- the marks of a node's operands
-module _ (marks : List ℕ) (n : Node) where
+module _ (marks : List Bool) (n : Node) where
   node_length : length (marked_node marks n) ≡ length marks
   unfolding marked_node
   node_length = marked_length (marked marks (a_use n.op) n.a) (b_use n.op) n.b ∙ marked_length marks (a_use n.op) n.a
@@ -110,100 +100,78 @@ module _ (marks : List ℕ) (n : Node) where
         | inr new ↦ inr (or_right (is_node (a_use n.op) n.a k) _ new)
       ]
 
--- ---- where node i is marked
-module _ (marks : List ℕ) (i : ℕ) (n : Node) where
-  at_length : length (marked_at marks i n) ≡ length marks
-  unfolding marked_at
-  at_length = go (eqb (entry_of marks i) 1)
-    where
-      go : (b : Bool) → length (cond b (marked_node marks n) marks) ≡ length marks
-      go true = node_length marks n
-      go false = refl
-
-  at_mono : (k : ℕ) → Live marks k → Live (marked_at marks i n) k
-  unfolding marked_at
-  at_mono k h = go (eqb (entry_of marks i) 1)
-    where
-      go : (b : Bool) → Live (cond b (marked_node marks n) marks) k
-      go true = node_mono marks n k h
-      go false = h
-
-  at_new : (k : ℕ) → k < length marks → Live marks i → has_operand n k ≡ true → Live (marked_at marks i n) k
-  unfolding marked_at
-  at_new k l live e = rw (eq-eqb (entry_of marks i) 1 live) (node_new marks n k l e)
-
-  at_back : (k : ℕ) → Live (marked_at marks i n) k → (Live marks k) ⊎ ((Live marks i) × (has_operand n k ≡ true))
-  unfolding marked_at
-  at_back k h = go (eqb (entry_of marks i) 1) refl h
-    where
-      go : (b : Bool) → eqb (entry_of marks i) 1 ≡ b → Live (cond b (marked_node marks n) marks) k → (Live marks k) ⊎ ((Live marks i) × (has_operand n k ≡ true))
-      go true e g =
-          elim (node_back marks n k g) [
-            | inl old ↦ inl old
-            | inr new ↦ inr (eqb-true (entry_of marks i) 1 e, new)
-          ]
-      go false e g = inl g
-
 -- ---- from the root down
-pub none_marked : (n k : ℕ) → entry_of (replicate n 0) k ≡ 0
-unfolding entry_of
+pub none_marked : (n k : ℕ) → get_or (replicate n false) k false ≡ false
 none_marked n k =
     elim (test (ltb k n)) [
-      | inl e ↦ get_or-replicate n k 0 0 (ltb-true k n e)
-      | inr e ↦ get_or-eq_default (replicate n 0) 0 (omega (arith, length-replicate {A = ℕ} n 0, ltb-false k n e))
+      | inl e ↦ get_or-replicate n k false false (ltb-true k n e)
+      | inr e ↦ get_or_past (replicate n false) k false (omega (arith, length-replicate {A = Bool} n false, ltb-false k n e))
     ]
 
-pub first_marked : {x : ℕ → Node} {root : ℕ} (marks : List ℕ) → root < length marks → ((k : ℕ) → entry_of marks k ≡ 0) → MarkedFrom x root (root + 1) (set marks root 1)
+pub first_marked : {x : ℕ → Node} {root : ℕ} (marks : List Bool) → root < length marks → ((k : ℕ) → get_or marks k false ≡ false)
+    → MarkedFrom x root (root + 1) (set marks root true)
 first_marked {root = root} marks inside none =
     record {
-      inside = omega (arith, length-set marks root 1);
+      inside = omega (arith, length-set marks root true);
       root_live = set_live marks root inside;
       closed = λ p k least most live h. absurd (omega arith);
       parented = λ k live other.
           elim (set_back marks root inside k live) [
-            | inl old ↦ absurd (omega (arith, none k, old))
+            | inl old ↦ absurd (true≢false (sym old ∙ none k))
             | inr is ↦ absurd (other (sym is))
           ];
     }
 
-module _ {x : ℕ → Node} {root j : ℕ} {marks : List ℕ} (right : (k : ℕ) → k ≤ root → operands_right emitted_sorts x k ≡ true)
-    (some : j ≤ root) (m : MarkedFrom x root (j + 1) marks) where
-  -- a marked node from j on was marked before
-  marked_before : (p : ℕ) → j ≤ p → Live (marked_at marks j (x j)) p → Live marks p
-  marked_before p least live =
-      elim (at_back marks j (x j) p live) [
-        | inl old ↦ old
-        | inr new ↦ absurd (omega (arith, operand_less emitted_sorts x j p (right j some) new.1))
-      ]
-
-  turn_closed : (p k : ℕ) → j ≤ p → p ≤ root → Live (marked_at marks j (x j)) p → has_operand (x p) k ≡ true → Live (marked_at marks j (x j)) k
-  turn_closed p k least most live e =
-      let old = marked_before p least live in
-      elim (test (eqb p j)) [
-        | inl same ↦ let is = eqb-true p j same in
-            at_new marks j (x j) k (omega (arith, m.inside, operand_less emitted_sorts x p k (right p most) e)) (subst (Live marks) is old)
-            (subst (λ (o : ℕ). has_operand (x o) k ≡ true) is e)
-        | inr other ↦ let differs = eqb-false p j other in
-            at_mono marks j (x j) k (m.closed p k (omega arith) most old e)
-      ]
-
-  turn_parented : (k : ℕ) → Live (marked_at marks j (x j)) k → (k ≡ root → ⊥) → Parent x root (marked_at marks j (x j)) k
-  turn_parented k live other =
-      elim (at_back marks j (x j) k live) [
-        | inl old ↦ let p = m.parented k old other in
-            record { node = p.node; most = p.most; live = at_mono marks j (x j) p.node p.live; operand = p.operand }
-        | inr new ↦ record { node = j; most = some; live = at_mono marks j (x j) j new.0; operand = new.1 }
-      ]
-
-  -- one turn
-  pub turn_down : MarkedFrom x root j (marked_at marks j (x j))
-  turn_down =
+module _ {x : ℕ → Node} {root i : ℕ} {marks : List Bool} (m : MarkedFrom x root (i + 1) marks) where
+  -- a node that is not marked has nothing to mark
+  pub pass_down : get_or marks i false ≡ false → MarkedFrom x root i marks
+  pass_down dead =
       record {
-        inside = omega (arith, m.inside, at_length marks j (x j));
-        root_live = at_mono marks j (x j) root m.root_live;
-        closed = turn_closed;
-        parented = turn_parented;
+        inside = m.inside;
+        root_live = m.root_live;
+        closed = λ p k least most live h.
+            elim (test (eqb p i)) [
+              | inl e ↦ absurd (true≢false (sym live ∙ ap (λ (o : ℕ). get_or marks o false) (eqb-true p i e) ∙ dead))
+              | inr e ↦ let differs = eqb-false p i e in m.closed p k (omega arith) most live h
+            ];
+        parented = m.parented;
       }
 
-pub marked_from : {x : ℕ → Node} {root i j : ℕ} {marks : List ℕ} → i ≡ j → MarkedFrom x root i marks → MarkedFrom x root j marks
+  module _ (right : (k : ℕ) → k ≤ root → operands_right emitted_sorts x k ≡ true) (most : i ≤ root) (live-i : Live marks i) where
+    -- a marked node from i on was marked before
+    marked_before : (p : ℕ) → i ≤ p → Live (marked_node marks (x i)) p → Live marks p
+    marked_before p least live =
+        elim (node_back marks (x i) p live) [
+          | inl old ↦ old
+          | inr new ↦ absurd (omega (arith, operand_less emitted_sorts x i p (right i most) new))
+        ]
+
+    turn_closed : (p k : ℕ) → i ≤ p → p ≤ root → Live (marked_node marks (x i)) p → has_operand (x p) k ≡ true → Live (marked_node marks (x i)) k
+    turn_closed p k least most live e =
+        elim (test (eqb p i)) [
+          | inl same ↦ node_new marks (x i) k (omega (arith, m.inside, operand_less emitted_sorts x p k (right p most) e))
+              (subst (λ (o : ℕ). has_operand (x o) k ≡ true) (eqb-true p i same) e)
+          | inr other ↦ let differs = eqb-false p i other in
+              node_mono marks (x i) k (m.closed p k (omega arith) most (marked_before p least live) e)
+        ]
+
+    turn_parented : (k : ℕ) → Live (marked_node marks (x i)) k → (k ≡ root → ⊥) → Parent x root (marked_node marks (x i)) k
+    turn_parented k live other =
+        elim (node_back marks (x i) k live) [
+          | inl old ↦ let p = m.parented k old other in
+              record { node = p.node; most = p.most; live = node_mono marks (x i) p.node p.live; operand = p.operand }
+          | inr new ↦ record { node = i; most = most; live = node_mono marks (x i) i live-i; operand = new }
+        ]
+
+    -- a marked one marks its operands
+    pub turn_down : MarkedFrom x root i (marked_node marks (x i))
+    turn_down =
+        record {
+          inside = omega (arith, m.inside, node_length marks (x i));
+          root_live = node_mono marks (x i) root m.root_live;
+          closed = turn_closed;
+          parented = turn_parented;
+        }
+
+pub marked_from : {x : ℕ → Node} {root i j : ℕ} {marks : List Bool} → i ≡ j → MarkedFrom x root i marks → MarkedFrom x root j marks
 marked_from {x} {root} {marks = marks} e m = subst (λ (n : ℕ). MarkedFrom x root n marks) e m

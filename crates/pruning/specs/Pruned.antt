@@ -1,42 +1,35 @@
 -- A drafted formula, and the one that is written: its nodes that the root reaches, in their order.
-use Rattle.std.specs.Prelude.{ℕ, ◌+◌, ◌≤◌, ◌<◌, true, cond, ◌&&◌, List, ◌≡◌, eqb, ltb, length, set}
+use Rattle.std.specs.Prelude.{ℕ, ◌+◌, ◌≤◌, ◌<◌, Bool, true, false, cond, ◌&&◌, List, ◌≡◌, ltb, length, get_or, set}
 use Rattle.stored.specs.declared.Node.{Node}
 use Rattle.stored.specs.declared.nodes.Use.{Use}
 use Rattle.stored.specs.Node.{emitted_sorts, sort_of, is_operand, a_use, b_use}
 use Rattle.stored.specs.Tree.{proposition_at, formula_at}
-use Rattle.stored.specs.Reach.{entry_of}
 use Rattle.stored.specs.Reached.{has_operand, Reached}
 use Rattle.stored.specs.Sheet.{header_of}
-use Rattle.stored.specs.Written.{node_in, NodeFits}
+use Rattle.stored.specs.Written.{node_in}
 use Rattle.plans.specs.Emission.{count, Good, Step, HasProposition, Has}
-use Rattle.plans.specs.Plan.{Put}
-use Rattle.emission.specs.Copying.{copied_node}
 
--- ---- marks, one a node: 1 where the root reaches it
-abbrev pub Live : List ℕ → ℕ → Type 0
-Live marks i = entry_of marks i ≡ 1
+-- ---- marks, one a node: true where the root reaches it
+abbrev pub Live : List Bool → ℕ → Type 0
+Live marks i = get_or marks i false ≡ true
 
 -- the marks with that of a field of value v, used so
-unfoldable pub marked : List ℕ → Use → ℕ → List ℕ
-marked marks what v = cond (is_operand what && ltb v (length marks)) (set marks v 1) marks
+unfoldable pub marked : List Bool → Use → ℕ → List Bool
+marked marks what v = cond (is_operand what && ltb v (length marks)) (set marks v true) marks
 
 -- and with those of the operands of n
-unfoldable pub marked_node : List ℕ → Node → List ℕ
+unfoldable pub marked_node : List Bool → Node → List Bool
 marked_node marks n = marked (marked marks (a_use n.op) n.a) (b_use n.op) n.b
 
--- where node i, which is n, is marked
-unfoldable pub marked_at : List ℕ → ℕ → Node → List ℕ
-marked_at marks i n = cond (eqb (entry_of marks i) 1) (marked_node marks n) marks
-
 -- a marked node up to the root has node k as an operand
-pub record Parent (x : ℕ → Node) (root : ℕ) (marks : List ℕ) (k : ℕ) : Type 0 where
+pub record Parent (x : ℕ → Node) (root : ℕ) (marks : List Bool) (k : ℕ) : Type 0 where
   pub node : ℕ
   pub most : node ≤ root
   pub live : Live marks node
   pub operand : has_operand (x node) k ≡ true
 
 -- the root is marked, and nothing else but operands of marked nodes; those of the marked nodes from i on are
-pub record MarkedFrom (x : ℕ → Node) (root i : ℕ) (marks : List ℕ) : Type 0 where
+pub record MarkedFrom (x : ℕ → Node) (root i : ℕ) (marks : List Bool) : Type 0 where
   pub inside : root < length marks
   pub root_live : Live marks root
   pub closed : (p k : ℕ) → i ≤ p → p ≤ root → Live marks p → has_operand (x p) k ≡ true → Live marks k
@@ -47,11 +40,6 @@ pub record MarkedFrom (x : ℕ → Node) (root i : ℕ) (marks : List ℕ) : Typ
 pub record Same (x : ℕ → Node) (i : ℕ) (y : List ℕ) (r : ℕ) : Type 0 where
   pub proposition : sort_of emitted_sorts (x i).op ≡ 1 → HasProposition y r (proposition_at x i)
   pub formula : sort_of emitted_sorts (x i).op ≡ 2 → Has y r (formula_at x i)
-
--- bytes became others by node i, which is n, where it is marked: then it is node r
-pub data KeptAt (marks map : List ℕ) (i : ℕ) (n : Node) : List ℕ → List ℕ → ℕ → Type 0 where
-  passed : {x : List ℕ} {r : ℕ} → (Live marks i → ⊥) → KeptAt marks map i n x x r
-  kept : {x y : List ℕ} {r : ℕ} → Live marks i → NodeFits n → Put (copied_node map n) x y r → KeptAt marks map i n x y r
 
 -- x became y by the nodes of d that its root reaches, of which the last is r
 pub record PrunedTo (d : List ℕ) (root : ℕ) (x y : List ℕ) (r : ℕ) : Type 0 where
