@@ -10,13 +10,15 @@ use lib.Dec.{eqb}
 use lib.ListN.{length, get_or}
 use Rattle.semantics.proofs.Tests.{test}
 use Rattle.grammar.specs.Brackets.{open_after}
-use Rattle.grammar.specs.Token.{plain, line_end, Spelling, spelt, spellings, is_blank, is_digit, is_line_end, begins, spelling_of}
+use Rattle.grammar.specs.Token.{Spelling, spellings, is_blank, is_digit, is_line_end, begins, spelling_of}
 use Rattle.grammar.specs.Class.{letter_class, digit_class, blank_class, bracket_class, joiner_class, line_end_class, is_letter, is_bracket, is_joiner, class_of}
 use Rattle.grammar.proofs.Sorted.{sorting, given}
-use Rattle.lexer.specs.declared.spellings.Spelled.{Spelled}
-use Rattle.lexer.specs.Rows.{is_of, starts_as, those, word_of, token_of, row_at, rows_from, Found}
+use Rattle.std.proofs.Common.{Option, None}
+use Rattle.lexer.specs.declared.spellings.Spelling.{Spelling as Row}
+use Rattle.lexer.specs.Lexed.{meant}
+use Rattle.lexer.specs.Rows.{is_of, starts_as, those, first_row, spelt_by, has_number, all_numbered, Found}
 use Rattle.lexer.proofs.Digits.{digit_high}
-use Rattle.lexer.proofs.Rows.{found_later}
+use Rattle.lexer.proofs.Rows.{first_row_found}
 
 -- ---- what a class says of its byte
 -- where a test is false, its class is not given
@@ -88,7 +90,7 @@ module _ (b : ℕ) (other : class_of b ≡ bracket_class → ⊥) where
 -- ---- the spellings that begin with a byte of a class
 -- what they, and the rows that have them, are computed by
 unfoldable pub choosing : ℕ
-unfolding sorting is_of starts_as those word_of token_of row_at rows_from
+unfolding sorting is_of starts_as those spelt_by all_numbered has_number meant
 choosing = 0
 
 -- a text that begins with a byte that passes the test
@@ -98,25 +100,21 @@ module _ (p : ℕ → Bool) (b : ℕ) (text : List ℕ) (h : p b ≡ true) where
   passed_over [] e = absurd (true≢false e)
   passed_over (x ∷ word) e = rw (ne_eqb x b (λ s. true≢false (sym h ∙ sym (ap p s) ∙ e)))
 
-  those_found : (xs : List Spelling) → spelling_of xs (b ∷ text) ≡ spelling_of (those p xs) (b ∷ text)
+  those_found : (xs : List Spelling) → spelling_of (those p xs) (b ∷ text) ≡ spelling_of xs (b ∷ text)
   unfolding those spelling_of
   those_found [] = refl
   those_found (x ∷ more) = go (starts_as p x.bytes) refl (those_found more)
     where
-      go : (t : Bool) → starts_as p x.bytes ≡ t → spelling_of more (b ∷ text) ≡ spelling_of (those p more) (b ∷ text)
-          → cond (begins x.bytes (b ∷ text)) x (spelling_of more (b ∷ text)) ≡ spelling_of (cond t (x ∷ those p more) (those p more)) (b ∷ text)
+      go : (t : Bool) → starts_as p x.bytes ≡ t → spelling_of (those p more) (b ∷ text) ≡ spelling_of more (b ∷ text)
+          → spelling_of (cond t (x ∷ those p more) (those p more)) (b ∷ text) ≡ cond (begins x.bytes (b ∷ text)) x (spelling_of more (b ∷ text))
       go true e same = ap (λ (s : Spelling). cond (begins x.bytes (b ∷ text)) x s) same
       go false e same = rw (passed_over x.bytes e) same
 
 -- so only those are looked through
-found_among : (p : ℕ → Bool) (text : List ℕ) (r : Spelled) → 0 < length text → p (get_or text 0 0) ≡ true → Found (those p spellings) text r
+found_among : (p : ℕ → Bool) (text : List ℕ) (r : Option Row) → 0 < length text → p (get_or text 0 0) ≡ true → Found (those p spellings) text r
     → Found spellings text r
 found_among p [] r long h found = absurd (omega arith)
-found_among p (b ∷ text) r long h found = found_later spellings (those p spellings) (b ∷ text) r (those_found p b text h spellings) found
-
-only_line_end : those (is_of line_end_class) spellings ≡ spelt (10 ∷ []) (plain line_end) ∷ []
-unfolding choosing
-only_line_end = refl
+found_among p (b ∷ text) r long h found = rw (← those_found p b text h spellings) found
 
 unfoldable is_none : ℕ → Bool
 is_none b = not (is_of letter_class b) && not (is_of bracket_class b) && not (is_of joiner_class b) && not (is_of line_end_class b)
@@ -126,26 +124,18 @@ unfolding choosing is_none
 none_such = refl
 
 module _ (text : List ℕ) (class : ℕ) (long : 0 < length text) (e : class ≡ class_of (get_or text 0 0)) where
-  pub found_of : (c : ℕ) (r : Spelled) → class ≡ c → Found (those (is_of c) spellings) text r → Found spellings text r
+  -- the rows of this class are the spellings that begin with a byte of it
+  pub found_of : (c : ℕ) (rows : List Row) (r : Option Row) → class ≡ c → r ≡ first_row rows text → spelt_by rows ≡ those (is_of c) spellings
+      → all_numbered rows ≡ true → Found spellings text r
   unfolding is_of
-  found_of c r h = found_among (is_of c) text r long (eq-eqb (class_of (get_or text 0 0)) c (sym e ∙ h))
-
-  -- the line end
-  pub line_end_found : class ≡ line_end_class → Found spellings text (record { number = 0; width = 1 })
-  unfolding is_line_end spelling_of begins token_of
-  line_end_found h =
-      let ends = told is_line_end line_end_class line_end_class_lem class (get_or text 0 0) e h in
-      found_of line_end_class (record { number = 0; width = 1 }) h (rw only_line_end (alone text long (eqb-true (get_or text 0 0) 10 ends)))
-    where
-      alone : (text : List ℕ) → 0 < length text → get_or text 0 0 ≡ 10 → Found (spelt (10 ∷ []) (plain line_end) ∷ []) text (record { number = 0; width = 1 })
-      alone [] long ten = absurd (omega arith)
-      alone (b ∷ text) long ten = record { token = rw ten; width = rw ten }
+  found_of c rows r h first all numbered =
+      found_among (is_of c) text r long (eq-eqb (class_of (get_or text 0 0)) c (sym e ∙ h)) (rw (first, ← all) (first_row_found rows text numbered))
 
   -- a byte of another class begins nothing
   pub none_of : (class ≡ letter_class → ⊥) → (class ≡ bracket_class → ⊥) → (class ≡ joiner_class → ⊥) → (class ≡ line_end_class → ⊥)
-      → Found spellings text (record { number = 56; width = 1 })
-  unfolding spelling_of token_of is_of is_none
+      → Found spellings text None
+  unfolding spelling_of is_of is_none
   none_of letter bracket joiner end =
-      found_among is_none text (record { number = 56; width = 1 }) long
+      found_among is_none text None long
       (rw (← e, ne_eqb class letter_class letter, ne_eqb class bracket_class bracket, ne_eqb class joiner_class joiner, ne_eqb class line_end_class end))
-      (rw none_such (record { token = refl; width = refl }))
+      (rw none_such refl)

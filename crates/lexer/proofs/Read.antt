@@ -6,15 +6,16 @@ use mathlib.Core.Path.{◌≡◌, refl, sym, ap, ◌∙◌}
 use native.Mathlib.Omega.{arith}
 use lib.ListN.{length, get_or, take, drop, length-drop, drop_of_length-le}
 use lib.Seq.{drop-cons, take_all, get_or-drop}
-use Rattle.grammar.specs.Token.{Token, spellings, is_blank, is_digit, numbered, tokens, tokens_past}
+use Rattle.grammar.specs.Token.{Token, Spelling, spelling_of, spellings, is_blank, is_digit, numbered, tokens, tokens_past}
 use Rattle.grammar.specs.Class.{class_of}
 use Rattle.lexer.specs.declared.Lexed.{Lexed}
 use Rattle.lexer.specs.declared.Token.{Token as Lexeme}
-use Rattle.lexer.specs.declared.Token.TheVariants.{End}
+use Rattle.lexer.specs.declared.Token.TheVariants.{Outside, End}
 use Rattle.lexer.specs.Lexed.{meant, is_end, leads, Bounded, Means, Skipped, Munched, Next}
 use Rattle.lexer.specs.declared.numbers.Numeral.{Numeral}
-use Rattle.lexer.specs.declared.spellings.Spelled.{Spelled}
-use Rattle.lexer.specs.Rows.{token_of, Found}
+use Rattle.lexer.specs.declared.spellings.Spelling.{Spelling as Row}
+use Rattle.lexer.specs.Rows.{Found}
+use Rattle.std.proofs.Common.{Option, Some, None}
 use Rattle.lexer.proofs.Digits.{digits_more}
 use Rattle.lexer.proofs.Tokens.{all_spelt, spelling_long, spelling_fits, number_at, spelling_at}
 
@@ -40,34 +41,48 @@ number_read text at r t h e munched means =
     (omega (arith, munched.past, digits_more text at h e))
     munched.within
 
--- what a part of the text from this place to its end begins with
-pub found_rest : (text : List ℕ) (at : ℕ) (r : Spelled) → Found spellings (take (length text - at) (drop at text)) r
-    → Found spellings (drop at text) r
-found_rest text at r found = rw (take_all (length text - at) (drop at text) (omega (arith, length-drop at text))) at found
+-- the rest of a text from this place on, and the class of its first byte
+module _ (text : List ℕ) (at : ℕ) where
+  rest : take (length text - at) (drop at text) ≡ drop at text
+  rest = take_all (length text - at) (drop at text) (omega (arith, length-drop at text))
 
--- and the class of its first byte
-pub rest_class : (text : List ℕ) (at class : ℕ) → at < length text → class ≡ class_of (get_or text at 0)
-    → (0 < length (take (length text - at) (drop at text))) × (class ≡ class_of (get_or (take (length text - at) (drop at text)) 0 0))
-rest_class text at class h e =
-    let here : at + 0 ≡ at = omega arith in
-    rw (take_all (length text - at) (drop at text) (omega (arith, length-drop at text)), get_or-drop at text 0 0, here)
-    (omega (arith, length-drop at text), e)
+  pub found_rest : (r : Option Row) → Found spellings (take (length text - at) (drop at text)) r → Found spellings (drop at text) r
+  found_rest r found = rw rest at found
 
--- the word or sign that starts at this place
-module _ (text : List ℕ) (at : ℕ) (r : Spelled) (h : at < length text) (found : Found spellings (drop at text) r) where
-  pub width_fits : at + r.width ≤ length text
-  width_fits =
+  pub rest_class : (class : ℕ) → at < length text → class ≡ class_of (get_or text at 0)
+      → (0 < length (take (length text - at) (drop at text))) × (class ≡ class_of (get_or (take (length text - at) (drop at text)) 0 0))
+  rest_class class h e =
+      let here : at + 0 ≡ at = omega arith in
+      rw (rest, get_or-drop at text 0 0, here) (omega (arith, length-drop at text), e)
+
+-- the word or sign that starts at this place, or the byte there, which is outside
+module _ (text : List ℕ) (at : ℕ) (h : at < length text) where
+  first : Spelling
+  first = spelling_of spellings (drop at text)
+
+  first_fits : at + length first.bytes ≤ length text
+  unfolding first
+  first_fits =
       let fits = rw (← drop-cons text at 0 h) at (spelling_fits spellings (get_or text at 0) (drop (suc at) text)) in
-      omega (arith, found.width, fits, length-drop (suc at) text)
+      omega (arith, fits, length-drop (suc at) text)
 
-  pub spelling_read : (t : Lexeme) → is_blank (get_or text at 0) ≡ false → is_digit (get_or text at 0) ≡ false → Means t (token_of r.number)
-      → Next text at (record { token = t; at = at + r.width })
-  unfolding all_spelt
-  spelling_read t e d means =
-      token_read text at (at + r.width) t (token_of r.number) means
-      (spelling_at text at h e d ∙ rw (found.token, found.width))
-      (omega (arith, found.width, spelling_long spellings refl (drop at text)))
-      width_fits
+  first_read : (t : Lexeme) → is_blank (get_or text at 0) ≡ false → is_digit (get_or text at 0) ≡ false → Means t first.token
+      → Next text at (record { token = t; at = at + length first.bytes })
+  unfolding first all_spelt
+  first_read t e d means =
+      token_read text at (at + length first.bytes) t first.token means (spelling_at text at h e d)
+      (omega (arith, spelling_long spellings refl (drop at text)))
+      first_fits
+
+  pub row_read : (r : Row) → Found spellings (drop at text) (Some r) → is_blank (get_or text at 0) ≡ false → is_digit (get_or text at 0) ≡ false
+      → Next text at (record { token = r.1; at = at + length r.0.now })
+  unfolding first
+  row_read r found e d = rw found.bytes (first_read r.1 e d found.token)
+
+  pub outside_read : Found spellings (drop at text) None → is_blank (get_or text at 0) ≡ false → is_digit (get_or text at 0) ≡ false
+      → Next text at (record { token = Outside; at = at + 1 })
+  unfolding first meant is_end
+  outside_read found e d = rw (← found) at (first_read Outside e d (rw (← found) (record { same = refl; goes = refl; bounded = tt })))
 
 -- blanks from `at` to `start`
 module _ (text : List ℕ) (at start : ℕ) (skipped : Skipped text at start) where

@@ -1,8 +1,14 @@
--- The lexer's tables of spellings: rows of nine bytes, a word or sign that full stops fill up to eight, and the number of its token.
-use Rattle.std.specs.Prelude.{ℕ, zero, suc, ◌+◌, ◌-◌, ◌*◌, Bool, true, false, cond, List, [], ◌∷◌, ◌≡◌, leb, eqb, length, get_or, take, drop}
+-- The lexer's tables of spellings: rows of a word or sign and its token.
+use Rattle.std.specs.Prelude.{ℕ, Bool, true, false, cond, ◌&&◌, List, [], ◌∷◌, ◌≡◌, Option, Some, None, leb, ltb, eqb}
+use Rattle.std.specs.Borrow.{Bor}
+use Rattle.std.specs.List.{starts_with, find}
+use Rattle.std.specs.Option.{option_map}
 use Rattle.grammar.specs.Class.{class_of}
-use Rattle.grammar.specs.Token.{Token, plain, signalled, named, outside, Spelling, spelt, begins, spelling_of}
-use Rattle.lexer.specs.declared.spellings.Spelled.{Spelled}
+use Rattle.grammar.specs.Token.{Spelling, spelt, outside, spelling_of}
+use Rattle.lexer.specs.declared.Token.{Token as Lexeme}
+use Rattle.lexer.specs.declared.Token.TheVariants.{Plain, Signal, Name, Number, Outside, End}
+use Rattle.lexer.specs.declared.spellings.Spelling.{Spelling as Row}
+use Rattle.lexer.specs.Lexed.{meant, Means}
 
 -- a byte of this class
 unfoldable pub is_of : ℕ → ℕ → Bool
@@ -17,33 +23,41 @@ unfoldable pub those : (ℕ → Bool) → List Spelling → List Spelling
 those p [] = []
 those p (x ∷ more) = cond (starts_as p x.bytes) (x ∷ those p more) (those p more)
 
--- the text begins with byte b
-unfoldable pub first_is : ℕ → List ℕ → Bool
-first_is b [] = false
-first_is b (x ∷ text) = eqb b x
+-- the first row whose word or sign the text begins with
+unfoldable pub first_row : List Row → List ℕ → Option Row
+first_row rows text = find (λ x. starts_with eqb text x.0.now) rows
 
--- the bytes before the first full stop
-unfoldable pub word_of : List ℕ → List ℕ
-word_of [] = []
-word_of (b ∷ row) = cond (eqb b 46) [] (b ∷ word_of row)
+-- the row that is lent
+abbrev pub lent : Option (Bor Row) → Option Row
+lent r = option_map (λ x. x.now) r
 
--- k and the length of the row's word where the text begins with it, else 9
-unfoldable pub word_match : ℕ → List ℕ → List ℕ → ℕ
-word_match k row text = cond (begins (word_of row) text) (k + length (word_of row)) 9
+-- the rows as spellings of the grammar
+unfoldable pub spelt_by : List Row → List Spelling
+spelt_by [] = []
+spelt_by (x ∷ rows) = spelt x.0.now (meant x.1) ∷ spelt_by rows
 
--- the token with this number
-unfoldable pub token_of : ℕ → Token
-token_of k = cond (leb k 36) (plain k) (cond (leb k 52) (signalled (k - 37)) (cond (leb k 55) (named (k - 53)) outside))
+-- each row has the token of a word, a sign, a signal or a name
+unfoldable pub has_number : Lexeme → Bool
+has_number (Plain k) = leb k 36
+has_number (Signal k) = ltb k 16
+has_number (Name u) = ltb u 3
+has_number (Number n) = false
+has_number Outside = false
+has_number End = false
 
-unfoldable pub row_at : List ℕ → ℕ → Spelling
-row_at rows i = spelt (word_of (take 8 (drop (9 * i) rows))) (token_of (get_or rows (9 * i + 8) 0))
+unfoldable pub all_numbered : List Row → Bool
+all_numbered [] = true
+all_numbered (x ∷ rows) = has_number x.1 && all_numbered rows
 
--- the n rows from row i on
-unfoldable pub rows_from : List ℕ → ℕ → ℕ → List Spelling
-rows_from rows zero i = []
-rows_from rows (suc n) i = row_at rows i ∷ rows_from rows n (suc i)
+-- a row has the bytes and the token of a spelling, and no row says that a byte is outside
+pub record Spells (r : Row) (x : Spelling) : Type 0 where
+  pub bytes : r.0.now ≡ x.bytes
+  pub token : Means r.1 x.token
 
--- r has the token and the length of the first spelling that the text begins with
-pub record Found (table : List Spelling) (text : List ℕ) (r : Spelled) : Type 0 where
-  pub token : (spelling_of table text).token ≡ token_of r.number
-  pub width : length (spelling_of table text).bytes ≡ r.width
+abbrev pub IsRow : Option Row → Spelling → Type 0
+IsRow None x = spelt (0 ∷ []) outside ≡ x
+IsRow (Some r) x = Spells r x
+
+-- r is the first spelling of the table that the text begins with
+abbrev pub Found : List Spelling → List ℕ → Option Row → Type 0
+Found table text r = IsRow r (spelling_of table text)

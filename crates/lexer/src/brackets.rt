@@ -1,17 +1,16 @@
 // How deep the round brackets of a text go.
 ghost use Rattle.std.specs.Prelude.{◌≡◌, ◌≤◌};
-ghost use Rattle.grammar.specs.Class.{class_table};
 ghost use Rattle.grammar.specs.Brackets.{open_after, too_deep};
 
-use crate::lookup::{class_of, class_table};
+use crate::lookup::class_of;
 use classes::BRACKET;
 
 // How many brackets are open after byte b.
-fn open_after(table: &[u8], depth: usize, b: u8) -> usize
-    requires { (table.now ≡ class_table) × (depth ≤ 32) }
+fn open_after(depth: usize, b: u8) -> usize
+    requires { depth ≤ 32 }
     ensures { result ≡ open_after depth b }
 {
-    if class_of(table, b) != BRACKET {
+    if class_of(b) != BRACKET {
         return depth;
     }
     match b {
@@ -25,10 +24,9 @@ fn open_after(table: &[u8], depth: usize, b: u8) -> usize
 pub fn too_deep(text: &[u8]) -> bool
     ensures { result ≡ too_deep text.now }
 {
-    let table = class_table();
     let mut depth = 0;
     for b in text {
-        depth = open_after(&table, depth, *b);
+        depth = open_after(depth, *b);
         if 32 < depth {
             return true;
         }

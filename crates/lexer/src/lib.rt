@@ -8,11 +8,10 @@ pub mod spellings;
 pub mod table;
 
 ghost use Rattle.std.specs.Prelude.{◌≡◌};
-ghost use Rattle.grammar.specs.Class.{class_table};
 ghost use Rattle.grammar.specs.Spelled.{ends_line};
 ghost use Rattle.lexer.specs.Lexed.{Skipped, Next};
 
-use crate::lookup::{class_of, class_table};
+use crate::lookup::class_of;
 use classes::{BLANK, DIGIT, LINE_END};
 
 // A word, sign or line end by its number; s0 to s15; u0 to u2; a number up to 65,535; anything else; the end of the text.
@@ -34,12 +33,11 @@ pub struct Lexed {
 }
 
 // The first place from `at` on that has no blank.
-fn skip_blanks(table: &[u8], text: &[u8], at: usize) -> usize
-    requires { table.now ≡ class_table }
+fn skip_blanks(text: &[u8], at: usize) -> usize
     ensures { Skipped text.now at result }
 {
     for i in at..text.len() {
-        if class_of(table, text[i]) != BLANK {
+        if class_of(text[i]) != BLANK {
             return i;
         }
     }
@@ -50,17 +48,16 @@ fn skip_blanks(table: &[u8], text: &[u8], at: usize) -> usize
 pub fn next(text: &[u8], at: usize) -> Lexed
     ensures { Next text.now at result }
 {
-    let table = class_table();
-    let start = skip_blanks(&table, text, at);
+    let start = skip_blanks(text, at);
     if text.len() <= start {
         return Lexed {
             token: Token::End,
             at: text.len(),
         };
     }
-    let class = class_of(&table, text[start]);
+    let class = class_of(text[start]);
     if class == DIGIT {
-        return numbers::number_at(&table, text, start);
+        return numbers::number_at(text, start);
     }
     spellings::spelling_at(text, start, class)
 }
@@ -73,6 +70,5 @@ pub fn ends_line(text: &[u8]) -> bool
     if size == 0 {
         return false;
     }
-    let table = class_table();
-    class_of(&table, text[size - 1]) == LINE_END
+    class_of(text[size - 1]) == LINE_END
 }

@@ -4,7 +4,7 @@ ghost use Rattle.grammar.specs.Class.{class_of, class_table};
 
 use crate::table::CLASSES;
 
-// The table. It is laid out anew at each call, so a caller does it once and lends it.
+// The whole table.
 pub fn class_table() -> [u8; 256]
     ensures { result ≡ class_table }
 {
@@ -12,9 +12,8 @@ pub fn class_table() -> [u8; 256]
 }
 
 // The class of a byte.
-pub fn class_of(table: &[u8], b: u8) -> u8
-    requires { table.now ≡ class_table }
+pub fn class_of(b: u8) -> u8
     ensures { result ≡ class_of b }
 {
-    table[b as usize]
+    CLASSES[b as usize]
 }

@@ -1,6 +1,5 @@
 // Decimal numbers.
 ghost use Rattle.std.specs.Prelude.{true, ◌≡◌, ◌+◌, ◌*◌, ◌-◌, ◌≤◌, ◌<◌, length, get_or};
-ghost use Rattle.grammar.specs.Class.{class_table};
 ghost use Rattle.grammar.specs.Token.{is_digit, numbered};
 ghost use Rattle.lexer.specs.Lexed.{capped, Munched, Next, Means};
 
@@ -25,14 +24,14 @@ fn with_digit(value: usize, b: u8) -> usize
 }
 
 // The number at `at`.
-fn munch(table: &[u8], text: &[u8], at: usize) -> Numeral
-    requires { (table.now ≡ class_table) × (at ≤ length text.now) }
+fn munch(text: &[u8], at: usize) -> Numeral
+    requires { at ≤ length text.now }
     ensures { Munched text.now at result }
 {
     let mut value = 0;
     for i in at..text.len() {
         let b = text[i];
-        if class_of(table, b) != DIGIT {
+        if class_of(b) != DIGIT {
             return Numeral { value, at: i };
         }
         value = with_digit(value, b);
@@ -54,11 +53,11 @@ fn number_token(value: usize) -> Token
 }
 
 // The token that starts with the digit at `at`.
-pub fn number_at(table: &[u8], text: &[u8], at: usize) -> Lexed
-    requires { (table.now ≡ class_table) × (at < length text.now) × (is_digit (get_or text.now at 0) ≡ true) }
+pub fn number_at(text: &[u8], at: usize) -> Lexed
+    requires { (at < length text.now) × (is_digit (get_or text.now at 0) ≡ true) }
     ensures { Next text.now at result }
 {
-    let read = munch(table, text, at);
+    let read = munch(text, at);
     Lexed {
         token: number_token(read.value),
         at: read.at,

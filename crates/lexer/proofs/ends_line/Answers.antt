@@ -17,9 +17,6 @@ returns-then-size-eq0 c =
     let none : get_or text (length text - 1) 0 ≡ 0 = get_or-eq_default text 0 (omega (arith, c.if-size-eq0.true)) in
     sym (ap is_line_end none)
 
-pub class_of-requires : goal.class_of-requires
-class_of-requires c = c.class_table-table.ensures
-
 pub returns : goal.returns
 unfolding ends_line
 returns c = ap (λ (k : ℕ). eqb k line_end_class) c.class_of.ensures ∙ sym (line_end_class_lem _)

@@ -1,29 +1,16 @@
 -- `lexer::next` meets its contract.
-use native.Mathlib.Omega.{arith}
+use Rattle.std.proofs.Common.{arith}
 use Rattle.grammar.specs.Token.{is_digit}
 use Rattle.grammar.specs.Class.{digit_class}
 use Rattle.lexer.proofs.Classes.{digit_class_lem, told, untold}
 use Rattle.lexer.proofs.Read.{after_blanks, end_read}
 use Rattle.lexer.proofs.next.Goals as goal
 
-pub skip_blanks-start-requires : goal.skip_blanks-start-requires
-skip_blanks-start-requires c = c.class_table-table.ensures
-
 pub returns-then-text-start : goal.returns-then-text-start
 returns-then-text-start c = end_read _ _ _ c.skip_blanks-start.ensures c.if-text-start.true
 
-pub bounds-text-start : goal.bounds-text-start
-bounds-text-start c = omega arith
-
-pub class_of-class-requires : goal.class_of-class-requires
-class_of-class-requires c = c.class_table-table.ensures
-
 pub number_at-requires : goal.number_at-requires
-number_at-requires c = (
-  c.class_table-table.ensures,
-  omega arith,
-  told is_digit digit_class digit_class_lem _ _ c.class_of-class.ensures c.if-class-eq-DIGIT.true,
-)
+number_at-requires c = (omega arith, told is_digit digit_class digit_class_lem _ _ c.class_of-class.ensures c.if-class-eq-DIGIT.true)
 
 pub returns-then-class-eq-DIGIT : goal.returns-then-class-eq-DIGIT
 returns-then-class-eq-DIGIT c = after_blanks _ _ _ c.skip_blanks-start.ensures _ c.number_at.ensures
