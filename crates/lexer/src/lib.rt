@@ -16,7 +16,7 @@ use crate::lookup::{class_of, class_table};
 use classes::{BLANK, DIGIT, LINE_END};
 
 // A word, sign or line end by its number; s0 to s15; u0 to u2; a number up to 65,535; anything else; the end of the text.
-#[derive(Drop)]
+#[derive(Clone, Copy, Debug, PartialEq, Eq)]
 pub enum Token {
     Plain(usize),
     Signal(usize),
