@@ -3,6 +3,7 @@ use Prim.Native.Nat.{ℕ, suc, ◌+◌, ◌-◌, ◌≤◌, ◌<◌}
 use native.Mathlib.Omega.{arith}
 use mathlib.Core.List.{List, ◌∷◌}
 use mathlib.Core.Logic.{inl}
+use mathlib.Core.Option.{none}
 use mathlib.Core.Path.{◌≡◌, refl, ap, ◌∙◌}
 use lib.ListN.{length}
 use Rattle.std.specs.Prelude.{Option, Some, None, MatchOption}
@@ -36,6 +37,10 @@ within_open ready opens =
     record { area = ready.area; inside = opens.within; taken = let h = opens.onward in omega (arith, ready.taken) }
 
 -- the same of some of the states
+pub none_at : {K L : Type 0} {about : L → State} {room : ℕ} {text : List ℕ} {at : ℕ} (κ : K → L) → Outside about room text at
+    → Outside (λ k. about (κ k)) room text at
+none_at κ out = record { fails = λ k. out.fails (κ k) }
+
 pub went_at : {K L : Type 0} {about : L → State} {from : ℕ} {text : List ℕ} {at room to : ℕ} {s : L → State} (κ : K → L)
     → Went about from text at room to s → Went (λ k. about (κ k)) from text at room to (λ k. s (κ k))
 went_at κ w = record { goes = λ k. w.goes (κ k); onward = w.onward; within = w.within }
@@ -130,6 +135,16 @@ module _ {K T : Type 0} {about : K → State} {has : K → T → State} {put : T
         more = omega (arith, one);
         taken = omega (arith, one);
       }
+
+  -- the same, of which none of these signs can be read after it
+  pub ended_put : {Taken : ℕ → Type 0} {last : Node} {z y : List ℕ} {before to r : ℕ} (t : T)
+      → Went about room text at room to (λ k. has k t) → NodePut last z before y r
+      → put_node last (draft z before) ≡ put t (draft x count)
+      → count ≤ before → before + at < count + to → at < to
+      → ((k : K) (n : ℕ) (ts : List Token) → Taken n → ahead text to ≡ plain n ∷ ts → answer (run room (has k t) (plain n ∷ ts)) ≡ none)
+      → Ended about has put Taken room text at x count y (record { at = to; count = r })
+  unfolding took_put
+  ended_put t w p same h₁ h₂ h₃ stops = record { took = took_put t w p same h₁ h₂ h₃; stops = stops }
 
   -- a piece of one node
   pub took_alone : {last : Node} {y : List ℕ} {to r : ℕ} (t : T)
