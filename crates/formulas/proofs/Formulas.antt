@@ -1,14 +1,14 @@
 -- Formulas: a piece by the word or sign that it begins with, pieces joined, and a whole formula.
 use Prim.Native.Nat.{ℕ, zero, suc, ◌+◌, ◌-◌, ◌≤◌, ◌<◌}
 use native.Mathlib.Omega.{arith}
-use mathlib.Core.Bool.{Bool, true, false, ◌&&◌, true≢false}
+use mathlib.Core.Bool.{Bool, true, ◌&&◌, true≢false}
 use mathlib.Core.List.{List, [], ◌∷◌}
 use mathlib.Core.Logic.{◌⊎◌, inl, inr}
 use mathlib.Core.Option.{none}
 use mathlib.Core.Path.{◌≡◌, refl, sym, ap, subst, ◌∙◌}
 use lib.Dec.{leb, eqb}
-use lib.ListN.{length}
 use borrow.Author.Tests.{leb-true, ne_eqb, eqb-true, eqb-false}
+use Rattle.std.specs.Prelude.{Option}
 use Rattle.semantics.proofs.Tests.{test, and_left, and_right}
 use Rattle.grammar.specs.Token.{Token, plain, signalled, named, number, outside, open_round, close_round, star_sign}
 use Rattle.grammar.specs.Tree.{OrF, one_f, or_f, chain_f, and_f, unit_f, chop_f, UnitF, pointF, stretchF, wholeF, braceF, slen_f, scountF, sdurF, draw_f, at_f, gap_f, bracketF, starF}
@@ -16,17 +16,20 @@ use Rattle.grammar.specs.Reader.{no_or_f, after_or_f, no_and_f, after_and_f, Hol
 use Rattle.grammar.proofs.Said.{computing}
 use Rattle.grammar.proofs.Room.{failed_none, stuck_none}
 use Rattle.grammar.proofs.Next.{or_f_lem, and_f_lem, chop_f_lem, star_f}
+use Rattle.lexer.specs.declared.Lexed.{Lexed}
+use Rattle.lexer.specs.declared.Token.{Token as Told}
+use Rattle.lexer.specs.declared.Token.TheVariants.{Plain, Signal, Name, Number, Outside as NoToken, End}
+use Rattle.lexer.specs.Lexed.{meant, is_end, Next}
 use Rattle.typed.specs.Draft.{Draft, draft, last, node, put_over, put_or_f, put_and_f, put_chop_f, put_unit_f}
 use Rattle.propositions.specs.declared.Got.{Got}
-use Rattle.propositions.specs.declared.leaf.Leaf.{Leaf}
-use Rattle.propositions.specs.declared.leaf.Lexeme.{Lexeme}
-use Rattle.propositions.specs.Lexemes.{token_as, Lexes, Opens}
-use Rattle.propositions.specs.Nodes.{Puttable, NodePut}
-use Rattle.propositions.specs.Reads.{ahead, sign_of, Leafs, Ready, Reads, Then, next, after, before_f}
+use Rattle.propositions.specs.Lexemes.{Opens}
+use Rattle.propositions.specs.Nodes.{NodePut}
+use Rattle.propositions.specs.Reads.{ahead, Comes, Stuck, Ready, Took, Outside, Reads, Ended, Then, next, after, before_f}
 use Rattle.formulas.specs.Pieces.{about_bounded, put_bounded, about_slen, put_slen, about_counted, put_counted, about_draw, put_draw, about_at, put_at, about_gap, put_gap, Place, about_level, has_level, put_level, Taken, about_piece, about_bracket_f, ReadsLevel, ReadsPiece}
 use Rattle.propositions.proofs.Chains.{Chain}
+use Rattle.propositions.proofs.Leaves.{comes, stuck_at}
 use Rattle.propositions.proofs.Steps.{sign_run}
-use Rattle.propositions.proofs.Went.{Went, went_at, Told, told_bracket, closes_none, closes_from, closes_told, closes_put}
+use Rattle.propositions.proofs.Went.{Went, went_at, went_leaf, went_took, none_at, none_from, ended_from, ended_put, either, bracket_inner_none, bracket_close_none, bracket_took}
 
 -- a star after a piece
 star_next : (h : HoleF) (u : UnitF) (k : OrF → State) → step (has_unit_f h k u) (plain star_sign) ≡ starred u (has_unit_f h k)
@@ -47,31 +50,31 @@ star_none w u room n ts bare taken = elim taken [
   | inr h ↦ absurd (let low = h.0 in let high = h.1 in omega arith)
 ]
 
-module _ {room : ℕ} {text : List ℕ} {at : ℕ} {x : List ℕ} {count : ℕ} {y : List ℕ} {r : Got} where
-  -- a piece that is the unit u of what was read
+-- a piece as it was read by the word or sign that it begins with
+module _ (room : ℕ) (text : List ℕ) (at : ℕ) (x : List ℕ) (count : ℕ) (y : List ℕ) (r : Option Got) where
+  -- it is the unit u of what was read
   closes_piece : {T : Type 0} (word : ℕ) (about : (T → State) → State) (put : T → Draft → Draft) (u : T → UnitF)
       → ((w : Place 0) → about_piece word w ≡ about (λ t. has_unit_f w.0 w.1 (u t))) → ((t : T) (d : Draft) → put t d ≡ put_unit_f (u t) d)
       → ((t : T) (k : UnitF → State) → starred (u t) k ≡ failed) → Reads about next put room text at x count y r
       → ReadsPiece (about_piece word) room text at x count y r
-  closes_piece word about put u same puts bare reads =
+  closes_piece word about put u same puts bare =
+      either r
+      (λ out.
+      record { fails = λ w. ap (λ s. answer (run room s (ahead text at))) (same w) ∙ out.fails (λ t. has_unit_f w.0 w.1 (u t)) })
+      (λ got t.
       record {
-        reads =
+        took =
             record {
-              took = λ ok. let t = reads.took ok in
-                  record {
-                    tree = u t.tree;
-                    goes = λ w. ap (λ s. answer (run room s (ahead text at))) (same w) ∙ t.goes (λ t. has_unit_f w.0 w.1 (u t));
-                    drafted = t.drafted ∙ puts t.tree (draft x count);
-                    onward = t.onward;
-                    within = t.within;
-                    more = t.more;
-                    taken = t.taken;
-                  };
-              fails = λ ok w. ap (λ s. answer (run room s (ahead text at))) (same w) ∙ reads.fails ok (λ t. has_unit_f w.0 w.1 (u t));
-              size = reads.size;
+              tree = u t.tree;
+              goes = λ w. ap (λ s. answer (run room s (ahead text at))) (same w) ∙ t.goes (λ t. has_unit_f w.0 w.1 (u t));
+              drafted = t.drafted ∙ puts t.tree (draft x count);
+              onward = t.onward;
+              within = t.within;
+              more = t.more;
+              taken = t.taken;
             };
-        stops = λ ok w n ts taken there. star_none w (u (reads.took ok).tree) room n ts (bare (reads.took ok).tree) taken;
-      }
+        stops = λ w n ts taken there. star_none w (u t.tree) room n ts (bare t.tree) taken;
+      })
 
   pub point_closes : {word : ℕ} → word ≡ 17 → Reads (about_bounded 21) next (put_bounded 16) room text at x count y r
       → ReadsPiece (about_piece word) room text at x count y r
@@ -125,17 +128,17 @@ module _ {room : ℕ} {text : List ℕ} {at : ℕ} {x : List ℕ} {count : ℕ} 
   unfolding computing
   gap_closes {word = word} e = closes_piece word about_gap put_gap (λ t. gap_f t.0 t.1 t.2 t.3) (λ w. rw e) (λ t d. refl) (λ t k. refl)
 
-  -- no piece begins with this word or sign
-  pub other_closes : {word : ℕ} → (word ≡ 17 → ⊥) → (word ≡ 24 → ⊥) → (word ≡ 26 → ⊥) → (word ≡ 28 → ⊥) → (word ≡ 11 → ⊥) → (word ≡ 12 → ⊥)
-      → (word ≡ 13 → ⊥) → (word ≡ 14 → ⊥) → (word ≡ 15 → ⊥) → (word ≡ 16 → ⊥) → (word ≡ 22 → ⊥) → r.ok ≡ false → length y ≡ length x
-      → ReadsPiece (about_piece word) room text at x count y r
-  unfolding computing
-  other_closes {word = word} h₁ h₂ h₃ h₄ h₅ h₆ h₇ h₈ h₉ h₁₀ h₁₁ not size =
-      closes_none not
-      (λ w.
-      rw (ne_eqb word 17 h₁, ne_eqb word 24 h₂, ne_eqb word 26 h₃, ne_eqb word 28 h₄, ne_eqb word 11 h₅, ne_eqb word 12 h₆)
-      (rw (ne_eqb word 13 h₇, ne_eqb word 14 h₈, ne_eqb word 15 h₉, ne_eqb word 16 h₁₀, ne_eqb word 22 h₁₁) (failed_none room (ahead text at))))
-      size
+-- no piece begins with this word or sign
+pub other_none : {room : ℕ} {text : List ℕ} {at word : ℕ} → (word ≡ 17 → ⊥) → (word ≡ 24 → ⊥) → (word ≡ 26 → ⊥) → (word ≡ 28 → ⊥)
+    → (word ≡ 11 → ⊥) → (word ≡ 12 → ⊥) → (word ≡ 13 → ⊥) → (word ≡ 14 → ⊥) → (word ≡ 15 → ⊥) → (word ≡ 16 → ⊥) → (word ≡ 22 → ⊥)
+    → Outside (about_piece word) room text at
+unfolding computing
+other_none {room} {text} {at} {word} h₁ h₂ h₃ h₄ h₅ h₆ h₇ h₈ h₉ h₁₀ h₁₁ =
+    record {
+      fails = λ w.
+          rw (ne_eqb word 17 h₁, ne_eqb word 24 h₂, ne_eqb word 26 h₃, ne_eqb word 28 h₄, ne_eqb word 11 h₅, ne_eqb word 12 h₆)
+          (rw (ne_eqb word 13 h₇, ne_eqb word 14 h₈, ne_eqb word 15 h₉, ne_eqb word 16 h₁₀, ne_eqb word 22 h₁₁) (failed_none room (ahead text at)));
+    }
 
 -- ---- pieces joined
 one : (l n : ℕ) → Taken (suc l) n → (n ≡ 32 - l) ⊎ Taken l n
@@ -201,11 +204,9 @@ level_chain (suc (suc (suc zero))) some h =
     }
 level_chain (suc (suc (suc (suc l)))) some h = absurd (omega arith)
 
-pub level_zero : {room : ℕ} {text : List ℕ} {at : ℕ} {x : List ℕ} {count : ℕ} {y : List ℕ} {r : Got} (l : ℕ) → l ≡ 0
-    → ReadsLevel 0 room text at x count y r
-    → ReadsLevel l room text at x count y r
-level_zero {room} {text} {at} {x} {count} {y} {r} l e closes =
-    subst (λ l. ReadsLevel l room text at x count y r) (sym e) closes
+pub level_zero : (room : ℕ) (text : List ℕ) (at : ℕ) (x : List ℕ) (count : ℕ) (y : List ℕ) (r : Option Got) (l : ℕ) → l ≡ 0
+    → ReadsLevel 0 room text at x count y r → ReadsLevel l room text at x count y r
+level_zero room text at x count y r l e closes = subst (λ l. ReadsLevel l room text at x count y r) (sym e) closes
 
 -- ---- a whole formula
 abbrev is_joiner : ℕ → Bool
@@ -250,26 +251,23 @@ follow f k room (named u ∷ ts) stops = refl
 follow f k room (number n ∷ ts) stops = refl
 follow f k room (outside ∷ ts) stops = refl
 
-pub formula_reads : {room : ℕ} {text : List ℕ} {at : ℕ} {x : List ℕ} {count : ℕ} {y : List ℕ} {r : Got}
+pub formula_reads : (room : ℕ) (text : List ℕ) (at : ℕ) (x : List ℕ) (count : ℕ) (y : List ℕ) (r : Option Got)
     → ReadsLevel 3 room text at x count y r → Reads before_f after put_or_f room text at x count y r
-formula_reads {room = room} {text = text} {r = r} closes =
-    let reads = closes.reads in
+formula_reads room text at x count y r =
+    either r (λ out. record { fails = λ k. out.fails (tt, after k) })
+    (λ got ended.
+    let t = ended.took in
     record {
-      took = λ ok. let t = reads.took ok in
-          record {
-            tree = t.tree;
-            goes = λ k.
-                t.goes (tt, after k)
-                ∙ follow t.tree k room (ahead text r.at) (λ n ts taken there. closes.stops ok (tt, after k) n ts taken there);
-            drafted = t.drafted;
-            onward = t.onward;
-            within = t.within;
-            more = t.more;
-            taken = t.taken;
-          };
-      fails = λ ok k. reads.fails ok (tt, after k);
-      size = reads.size;
-    }
+      tree = t.tree;
+      goes = λ k.
+          t.goes (tt, after k)
+          ∙ follow t.tree k room (ahead text got.at) (λ n ts taken there. ended.stops (tt, after k) n ts taken there);
+      drafted = t.drafted;
+      onward = t.onward;
+      within = t.within;
+      more = t.more;
+      taken = t.taken;
+    })
 
 -- ---- a single piece, by its first token
 -- a piece after its first word or sign
@@ -286,137 +284,120 @@ bracket_first : (w : Place 0) (room : ℕ) (ts : List Token)
 unfolding computing
 bracket_first w room ts = refl
 
-word_first : {text : List ℕ} {at : ℕ} {first : Lexeme} → Lexes text true at first → first.tag ≡ 0
-    → ahead text at ≡ plain first.value ∷ ahead text first.at
-unfolding token_as
-word_first {text = text} {first = first} lexes e = elim (lexes.told refl) [
-  | inl there ↦ there.0 ∙ ap (λ tag. token_as tag first.value ∷ ahead text first.at) e
-  | inr end ↦ absurd (let five = end.1 in omega arith)
-]
+no_word : (w : Place 0) (t : Told) → ((n : ℕ) → t ≡ Plain n → ⊥) → step (about_level 0 w) (meant t) ≡ failed
+unfolding computing meant
+no_word w (Plain n) other = absurd (other n refl)
+no_word w (Signal i) other = refl
+no_word w (Name u) other = refl
+no_word w (Number n) other = refl
+no_word w NoToken other = refl
+no_word w End other = refl
 
-module _ {room : ℕ} {text : List ℕ} {at : ℕ} {x : List ℕ} {count : ℕ} {y : List ℕ} {r : Got} {first : Lexeme} (lexes : Lexes text true at first) where
-  pub term_piece : first.tag ≡ 0 → (first.value ≡ 22 → ⊥) → ReadsPiece (about_piece first.value) room text first.at x count y r
-      → ReadsLevel 0 room text at x count y r
-  term_piece e h closes =
-      let there = word_first lexes e in
-      let further = lexes.onward (omega arith) in
-      closes_from (omega arith)
-      (λ w.
-      ap (λ ts. answer (run room (about_level 0 w) ts)) there ∙ enter w first.value room (ahead text first.at) h)
-      closes
+unended : (w : Place 0) → answer (about_level 0 w) ≡ none
+unfolding computing
+unended w = refl
 
-  pub term_bracket : first.tag ≡ 0 → first.value ≡ 22 → ReadsPiece about_bracket_f room text at x count y r
-      → ReadsLevel 0 room text at x count y r
-  term_bracket e h closes =
-      let there = word_first lexes e ∙ ap (λ n. plain n ∷ ahead text first.at) h in
-      closes_from (omega arith)
-      (λ w.
-      ap (λ ts. answer (run room (about_level 0 w) ts)) there ∙ ap answer (bracket_first w room (ahead text first.at))
-      ∙ ap (λ ts. answer (run room (about_bracket_f w) ts)) (sym there))
-      closes
+-- by its first token
+module _ {text : List ℕ} {at : ℕ} {first : Lexed} (lexed : Next text at first) where
+  -- after a word or sign
+  pub word_ready : {x : List ℕ} {count word : ℕ} → first.token ≡ Plain word → Ready text at x count → Ready text first.at x count
+  unfolding is_end
+  word_ready {word = word} e ready =
+      let c = comes lexed (Plain word) e refl in
+      let h = c.onward in
+      record { area = ready.area; inside = c.within; taken = omega (arith, ready.taken) }
 
-  pub term_none : (first.tag ≡ 0 → ⊥) → r.ok ≡ false → length y ≡ length x
-      → ReadsLevel 0 room text at x count y r
-  unfolding computing token_as
-  term_none h not size =
-      closes_none not
-      (λ w. elim (lexes.told refl) [
-        | inl there ↦ ap (λ ts. answer (run room (about_level 0 w) ts)) there.0 ∙ no_word w first.tag first.value (ahead text first.at) h
-        | inr end ↦ ap (λ ts. answer (run room (about_level 0 w) ts)) end.0
-      ])
-      size
-    where
-      no_word : (w : Place 0) (tag value : ℕ) (ts : List Token) → (tag ≡ 0 → ⊥)
-          → answer (run room (about_level 0 w) (token_as tag value ∷ ts)) ≡ none
-      no_word w zero value ts h = absurd (h refl)
-      no_word w (suc zero) value ts h = failed_none room ts
-      no_word w (suc (suc zero)) value ts h = failed_none room ts
-      no_word w (suc (suc (suc zero))) value ts h = failed_none room ts
-      no_word w (suc (suc (suc (suc tag)))) value ts h = failed_none room ts
+  pub term_none : {room : ℕ} → ((n : ℕ) → first.token ≡ Plain n → ⊥) → Outside (about_level 0) room text at
+  term_none {room} other =
+      let never = stuck_at lexed (about_level 0) (λ _ w. unended w) (λ w. no_word w first.token other) in
+      record { fails = λ w. never.fails room w }
+
+  module _ (room : ℕ) (x : List ℕ) (count : ℕ) (y : List ℕ) (r : Option Got) where
+    pub term_piece : (word : ℕ) → first.token ≡ Plain word → (word ≡ 22 → ⊥) → ReadsPiece (about_piece word) room text first.at x count y r
+        → ReadsLevel 0 room text at x count y r
+    unfolding meant is_end
+    term_piece word e h =
+        let there = comes lexed (Plain word) e refl in
+        let on = there.onward in
+        let goes : (w : Place 0)
+        → answer (run room (about_level 0 w) (ahead text at)) ≡ answer (run room (about_piece word w) (ahead text first.at)) =
+        λ w. ap (λ ts. answer (run room (about_level 0 w) ts)) there.next ∙ enter w word room (ahead text first.at) h in
+        either r (none_from goes) (λ got. ended_from (omega arith) goes)
+
+    pub term_bracket : first.token ≡ Plain open_round → ReadsPiece about_bracket_f room text at x count y r
+        → ReadsLevel 0 room text at x count y r
+    unfolding meant is_end
+    term_bracket e =
+        let there = (comes lexed (Plain open_round) e refl).next in
+        let goes : (w : Place 0)
+        → answer (run room (about_level 0 w) (ahead text at)) ≡ answer (run room (about_bracket_f w) (ahead text at)) =
+        λ w.
+        ap (λ ts. answer (run room (about_level 0 w) ts)) there ∙ ap answer (bracket_first w room (ahead text first.at))
+        ∙ ap (λ ts. answer (run room (about_bracket_f w) ts)) (sym there) in
+        either r (none_from goes) (λ got. ended_from (omega arith) goes)
 
 -- ---- a formula in brackets
-pub bracket_none : {text : List ℕ} {at depth : ℕ} {x : List ℕ} {count : ℕ} {y : List ℕ} {r : Got} {opening : Leaf} → Opens text at depth opening
-    → opening.ok ≡ false → r.ok ≡ false → length y ≡ length x → ReadsPiece about_bracket_f depth text at x count y r
-bracket_none opened shut not size =
-    closes_none not (λ w. opened.fails shut (about_or_f (λ f. sign close_round (has_unit_f w.0 w.1 (bracketF f))))) size
+within_bracket : Place 0 → OrF → State
+within_bracket w f = has_level 0 w (bracketF f)
 
-module _ {text : List ℕ} {at depth : ℕ} {x : List ℕ} {count : ℕ} {z : List ℕ} {opening closing star : Leaf} {inner : Got}
-    (ready : Ready text at x count) (ok : opening.ok ≡ true) (opened : Opens text at depth opening)
-    (reads : Reads before_f after put_or_f (depth - 1) text opening.at x count z inner)
-    (leaf : Leafs (sign_of close_round) (sign close_round) text inner.ok inner.at closing)
-    (leaf' : Leafs (sign_of star_sign) (sign star_sign) text closing.ok closing.at star) where
-  -- up to the closing bracket
-  abbrev closed : Got
-  closed = record { ok = closing.ok; at = closing.at; count = inner.count }
+module _ {text : List ℕ} {at depth : ℕ} where
+  module _ {opening : ℕ} (opens : Opens text at depth opening) where
+    pub bracket_empty : Outside before_f (depth - 1) text opening → Outside about_bracket_f depth text at
+    unfolding within_bracket
+    bracket_empty out = none_at within_bracket (bracket_inner_none about_or_f opens out)
 
-  inside : Told (λ (k : OrF → State). sign open_round (about_or_f (λ f. sign close_round (k f)))) next put_or_f depth text at x count z closed
-  inside = told_bracket about_or_f (one_f (chain_f (unit_f (at_f 0)))) ok opened reads leaf
+    module _ {x : List ℕ} {count : ℕ} {z : List ℕ} {inner : Got} (t : Took before_f after put_or_f (depth - 1) text opening x count z inner) where
+      pub bracket_unclosed : Stuck (sign close_round) text inner.at → Outside about_bracket_f depth text at
+      unfolding within_bracket
+      bracket_unclosed never = none_at within_bracket (bracket_close_none about_or_f opens t never)
 
-  bracketed : Went about_bracket_f depth text at closing.ok depth closing.at (λ w. has_level 0 w (bracketF inside.tree))
-  bracketed =
-      let onto : Place 0 → OrF → State = λ w f. has_level 0 w (bracketF f) in
-      went_at onto inside.went
+      module _ {close : ℕ} (leaf : Comes (plain close_round) text inner.at close) where
+        -- up to the closing bracket
+        inside : Took (λ (k : OrF → State). sign open_round (about_or_f (λ f. sign close_round (k f)))) next put_or_f depth text at x count z
+            (record { at = close; count = inner.count })
+        inside = bracket_took about_or_f opens t leaf
 
-  -- no star follows
-  pub bracket_bare : star.ok ≡ false
-      → ReadsPiece about_bracket_f depth text at x count z
-      (record { ok = closing.ok; at = closing.at; count = inner.count })
-  unfolding put_unit_f
-  bracket_bare bare =
-      closes_told
-      (record {
-        tree = bracketF inside.tree;
-        went = bracketed;
-        drafted = inside.drafted;
-        onward = inside.onward;
-        more = inside.more;
-        taken = inside.taken;
-      })
-      reads.size
-      (λ e w n ts taken there. elim taken [
-        | inl is ↦
-            let f = inside.tree in
-            let s = has_level 0 w (starF f) in
-            ap (λ n. answer (run depth (has_level 0 w (bracketF f)) (plain n ∷ ts))) is ∙ ap answer (star_f depth w.0 w.1 f ts)
-            ∙ ap answer (sym (sign_run star_sign depth s ts (λ e. omega arith) (λ e. omega arith)))
-            ∙ ap (λ ts. answer (run depth (sign star_sign s) ts)) (sym (there ∙ ap (λ n. plain n ∷ ts) is)) ∙ leaf'.fails e bare depth s
-        | inr h ↦ absurd (let low = h.0 in let high = h.1 in omega arith)
-      ])
+        bracketed : Went about_bracket_f depth text at depth close (λ w. has_level 0 w (bracketF inside.tree))
+        unfolding within_bracket
+        bracketed = went_at within_bracket (went_took inside)
 
-  module _ (starry : star.ok ≡ true) where
-    -- the star's node can be put
-    pub star_puttable : length text < 18446744073709551615
-        → Puttable (record { ok = true; at = star.at; count = inner.count }) (node 23 0 (inner.count - 1) 0) z
-    star_puttable long =
-        let e = leaf'.well starry in
-        let h = inside.taken e in
-        let h' = inside.went.within e in
-        record {
-          area = reads.size ∙ ready.area;
-          counted = λ _. omega (arith, ready.taken);
-          fits = λ _ few. record { op_fits = omega arith; q_fits = omega arith; a_fits = omega arith; b_fits = omega arith };
-        }
+        -- no star follows
+        pub bracket_bare : Stuck (sign star_sign) text close
+            → Ended about_bracket_f (has_level 0) put_unit_f (Taken 0) depth text at x count z (record { at = close; count = inner.count })
+        unfolding put_unit_f
+        bracket_bare bare =
+            record {
+              took =
+                  record {
+                    tree = bracketF inside.tree;
+                    goes = bracketed.goes;
+                    drafted = inside.drafted;
+                    onward = inside.onward;
+                    within = inside.within;
+                    more = inside.more;
+                    taken = inside.taken;
+                  };
+              stops = λ w n ts taken there. elim taken [
+                | inl is ↦
+                    let f = inside.tree in
+                    let s = has_level 0 w (starF f) in
+                    ap (λ n. answer (run depth (has_level 0 w (bracketF f)) (plain n ∷ ts))) is ∙ ap answer (star_f depth w.0 w.1 f ts)
+                    ∙ ap answer (sym (sign_run star_sign depth s ts (λ e. omega arith) (λ e. omega arith)))
+                    ∙ ap (λ ts. answer (run depth (sign star_sign s) ts)) (sym (there ∙ ap (λ n. plain n ∷ ts) is)) ∙ bare.fails depth s
+                | inr h ↦ absurd (let low = h.0 in let high = h.1 in omega arith)
+              ];
+            }
 
-    pub bracket_star : {y : List ℕ} {r : Got}
-        → NodePut (record { ok = true; at = star.at; count = inner.count }) (node 23 0 (inner.count - 1) 0) z y r
-        → ReadsPiece about_bracket_f depth text at x count y r
-    unfolding computing put_unit_f put_over last
-    bracket_star p =
-        let e = leaf'.well starry in
-        let more = inside.more e in
-        let taken = inside.taken e in
-        let onward = inside.onward e in
-        let h = leaf'.onward starry in
-        closes_put (starF inside.tree)
-        (record {
-          goes = λ _ w.
-              bracketed.goes e w ∙ ap (λ ts. answer (run depth (has_level 0 w (bracketF inside.tree)) ts)) (leaf'.next starry)
-              ∙ ap answer (star_f depth w.0 w.1 inside.tree (ahead text star.at));
-          onward = λ _. omega arith;
-          within = λ _. leaf'.within starry;
-          fails = λ e. absurd (true≢false e);
-        })
-        p (λ _. ap (put_over 23 0 0) (inside.drafted e))
-        (λ _. (omega arith, omega arith, omega arith))
-        (p.size ∙ reads.size)
-        (λ _ w n ts taken there. star_none w (starF inside.tree) depth n ts (λ k. refl) taken)
+        pub bracket_star : {star : ℕ} {y : List ℕ} {r : ℕ} → Comes (plain star_sign) text close star
+            → NodePut (node 23 0 (inner.count - 1) 0) z inner.count y r
+            → Ended about_bracket_f (has_level 0) put_unit_f (Taken 0) depth text at x count y (record { at = star; count = r })
+        unfolding computing put_unit_f put_over last
+        bracket_star starry p =
+            let more = inside.more in
+            let taken = inside.taken in
+            let onward = inside.onward in
+            let h = starry.onward in
+            ended_put (starF inside.tree)
+            (went_leaf depth (λ w. has_level 0 w (starF inside.tree)) bracketed starry (λ w ts. star_f depth w.0 w.1 inside.tree ts))
+            p (ap (put_over 23 0 0) inside.drafted) (omega arith) (omega arith) (omega arith)
+            (λ w n ts taken there. star_none w (starF inside.tree) depth n ts (λ k. refl) taken)

@@ -1,29 +1,25 @@
 -- The pieces of a formula that have no formula in them.
-use Prim.Native.Nat.{ℕ, zero, suc, ◌-◌, ◌≤◌, ◌<◌}
+use Prim.Native.Nat.{ℕ, zero, suc, ◌+◌, ◌-◌, ◌*◌, ◌≤◌, ◌<◌}
 use native.Mathlib.Omega.{arith}
-use mathlib.Core.Bool.{Bool, true}
 use mathlib.Core.List.{List}
 use mathlib.Core.Logic.{inl}
 use mathlib.Core.Path.{◌≡◌, refl, sym, ap, ◌∙◌}
 use lib.ListN.{length}
 use Rattle.semantics.specs.Formula.{Comparison}
-use Rattle.stored.specs.declared.Node.{Node}
 use Rattle.stored.specs.Tree.{comparison_of}
-use Rattle.stored.specs.Written.{NodeFits}
-use Rattle.grammar.specs.Token.{number, named, signalled, close_round, comma_sign}
-use Rattle.grammar.specs.Tree.{OrP, one_p, unit_p, trueP, slen_f, draw_f}
+use Rattle.grammar.specs.Token.{plain, number, named, signalled, close_round, comma_sign}
+use Rattle.grammar.specs.Tree.{OrP, slen_f, draw_f}
 use Rattle.grammar.specs.Reader.{State, sign, a_number, a_name, a_signal, a_comparison}
 use Rattle.typed.specs.Draft.{Draft, draft, last, node, put, put_over, comparison_number, in_byte, put_or_p, put_unit_f}
 use Rattle.propositions.specs.declared.Got.{Got}
 use Rattle.propositions.specs.declared.leaf.Leaf.{Leaf}
-use Rattle.propositions.specs.declared.leaf.Lexeme.{Lexeme}
-use Rattle.propositions.specs.Lexemes.{Lexes, Opens}
-use Rattle.propositions.specs.Nodes.{Puttable, NodePut}
-use Rattle.propositions.specs.Reads.{sign_of, comparison_token, Leafs, Ready, Reads, next, after, before_p}
+use Rattle.propositions.specs.Lexemes.{Opens}
+use Rattle.propositions.specs.Nodes.{NodePut}
+use Rattle.propositions.specs.Reads.{comparison_token, Comes, Stuck, Outside, Took, Then, next, after, before_p}
 use Rattle.propositions.specs.Propositions.{about_bracket_p}
-use Rattle.formulas.specs.Pieces.{about_bounded, put_bounded, about_slen, about_counted, put_counted, about_draw, about_at, about_gap}
+use Rattle.formulas.specs.Pieces.{about_bounded, put_bounded, about_slen, put_slen, about_counted, put_counted, about_draw, put_draw, about_at, put_at, about_gap, put_gap}
 use Rattle.propositions.proofs.Steps.{sign_run, comma_run, close_back, number_run, name_run, signal_run, comparison_run}
-use Rattle.propositions.proofs.Went.{Went, went_none, went_leaf, further, went_open, went_at, told, reads_put}
+use Rattle.propositions.proofs.Went.{Went, went_none, went_leaf, further, went_open, went_at, went_took, fails_leaf, took_put, took_alone}
 
 -- a comparison by its number, and back
 pub compared : (q : ℕ) → q ≤ 4 → comparison_number (comparison_of q) ≡ q
@@ -43,185 +39,252 @@ pub draw_same : (q i b : ℕ) (d : Draft) → b ≡ in_byte q → put (node 27 b
 unfolding put_unit_f
 draw_same q i b d e = rw e
 
--- after a word
-pub word_ready : {text : List ℕ} {at : ℕ} {x : List ℕ} {count : ℕ} {first : Lexeme} → Ready text at x count → Lexes text true at first
-    → first.tag ≡ 0 → Ready text first.at x count
-word_ready ready lexes e =
-    let h = lexes.onward (omega arith) in
-    record { area = ready.area; inside = lexes.within (omega arith); taken = omega (arith, ready.taken) }
+-- <a> and its like: a proposition, its closing sign and its node
+abbrev closing : {close : ℕ} → close < 30 → (OrP → State) → Then OrP
+closing {close} h k = record { wanted = close; closing = inl h; onto = k }
 
-module _ {text : List ℕ} {at depth : ℕ} {x : List ℕ} {count : ℕ} (ready : Ready text at x count) where
-  -- a proposition, its closing sign and its node
-  pub bounded_reads : {close op : ℕ} {inner : Got} {end : Leaf} {z y : List ℕ} {r : Got} → close < 30 → (close ≡ 22 → ⊥) → (close ≡ 23 → ⊥)
-      → Reads before_p after put_or_p depth text at x count z inner → Leafs (sign_of close) (sign close) text inner.ok inner.at end
-      → NodePut (record { ok = end.ok; at = end.at; count = inner.count }) (node op 0 (inner.count - 1) 0) z y r
-      → Reads (about_bounded close) next (put_bounded op) depth text at x count y r
-  unfolding put_over last
-  bounded_reads {close = close} {op = op} h h₁ h₂ reads leaf p =
-      let t = told (one_p (unit_p trueP)) reads in
-      let w₁ = went_at (λ (k : OrP → State). record { wanted = close; closing = inl h; onto = k }) t.went in
-      let w₂ = went_leaf (λ k. k t.tree) depth (λ k. k t.tree) w₁ leaf (λ _ k ts. sign_run close depth _ ts h₁ h₂) in
-      reads_put t.tree w₂ p
-      (λ e. ap (put_over op 0 0) (t.drafted (leaf.well e)))
-      (λ e.
-      let a = t.more (leaf.well e) in
-      let b = t.taken (leaf.well e) in
-      let c = leaf.onward e in
-      (omega arith, omega arith, further w₁ leaf e))
-      (p.size ∙ reads.size)
+module _ {close depth : ℕ} {text : List ℕ} {at : ℕ} (h : close < 30) where
+  pub bounded_none : Outside before_p depth text at → Outside (about_bounded close) depth text at
+  bounded_none out = record { fails = λ k. out.fails (closing h k) }
 
-  -- the proposition and its closing sign leave room for the node
-  pub bounded_puttable : {close op : ℕ} {inner : Got} {end : Leaf} {z : List ℕ} → length text < 18446744073709551615 → op < 256
-      → Reads before_p after put_or_p depth text at x count z inner → Leafs (sign_of close) (sign close) text inner.ok inner.at end
-      → Puttable (record { ok = end.ok; at = end.at; count = inner.count }) (node op 0 (inner.count - 1) 0) z
-  bounded_puttable long small reads leaf =
-      record {
-        area = reads.size ∙ ready.area;
-        counted = λ e. let w = reads.took (leaf.well e) in omega (arith, w.taken, w.within, ready.taken);
-        fits = λ _ few. record { op_fits = small; q_fits = omega arith; a_fits = omega arith; b_fits = omega arith };
-      }
+  module _ {x : List ℕ} {count : ℕ} {z : List ℕ} {inner : Got} (t : Took before_p after put_or_p depth text at x count z inner) where
+    w₁ : Went (about_bounded close) depth text at depth inner.at (λ k. sign close (k t.tree))
+    w₁ = went_at (closing h) (went_took t)
 
-  -- slen: a comparison and a number
-  pub slen_went : {cmp end : Leaf} → Leafs comparison_token a_comparison text true at cmp → Leafs number a_number text cmp.ok cmp.at end
-      → Went about_slen depth text at end.ok depth end.at (λ k. k (comparison_of cmp.value, end.value)) × (end.ok ≡ true → at < end.at)
-  slen_went {cmp = cmp} {end = end} leaf₁ leaf₂ =
-      let c = comparison_of cmp.value in
-      let n = end.value in
-      let w₁ =
-      went_leaf (λ k c. a_number (λ n. k (c, n))) depth (λ k. a_number (λ n. k (c, n))) (went_none about_slen depth text at ready.inside) leaf₁
-      (λ _ k ts. comparison_run depth c _ ts) in
-      (went_leaf (λ k n. k (c, n)) depth (λ k. k (c, n)) w₁ leaf₂ (λ _ k ts. number_run depth n _ ts), further w₁ leaf₂)
+    pub bounded_unclosed : Stuck (sign close) text inner.at → Outside (about_bounded close) depth text at
+    bounded_unclosed never = fails_leaf (λ k. k t.tree) w₁ never
 
-  -- in brackets a proposition, then a comparison and a number
-  pub counted_reads : {op : ℕ} {cmp end : Leaf} {inner : Got} {z y : List ℕ} {r : Got}
-      → Reads about_bracket_p next put_or_p depth text at x count z inner
-      → Leafs comparison_token a_comparison text inner.ok inner.at cmp → cmp.value ≤ 4
-      → Leafs number a_number text cmp.ok cmp.at end
-      → NodePut (record { ok = end.ok; at = end.at; count = inner.count }) (node op cmp.value (inner.count - 1) end.value) z y r
-      → Reads about_counted next (put_counted op) depth text at x count y r
-  unfolding put_over last
-  counted_reads {op = op} {cmp = cmp} {end = end} reads leaf₁ q leaf₂ p =
-      let t = told (one_p (unit_p trueP)) reads in
-      let tree = t.tree in
-      let c = comparison_of cmp.value in
-      let n = end.value in
-      let onto : (OrP × Comparison × ℕ → State) → OrP → State = λ k p. a_comparison (λ c. a_number (λ n. k (p, c, n))) in
-      let w₁ = went_at onto t.went in
-      let w₂ =
-      went_leaf (λ k c. a_number (λ n. k (tree, c, n))) depth (λ k. a_number (λ n. k (tree, c, n))) w₁ leaf₁
-      (λ _ k ts. comparison_run depth c _ ts) in
-      let w₃ = went_leaf (λ k n. k (tree, c, n)) depth (λ k. k (tree, c, n)) w₂ leaf₂ (λ _ k ts. number_run depth n _ ts) in
-      reads_put (tree, c, n) w₃ p
-      (λ e.
-      ap (put_over op cmp.value n) (t.drafted (leaf₁.well (leaf₂.well e)))
-      ∙ ap (λ q. put_over op q n (put_or_p tree (draft x count))) (sym (compared cmp.value q)))
-      (λ e.
-      let e₁ = leaf₂.well e in
-      let a = t.more (leaf₁.well e₁) in
-      let b = t.taken (leaf₁.well e₁) in
-      let i = t.onward (leaf₁.well e₁) in
-      let d₁ = leaf₁.onward e₁ in
-      let d₂ = leaf₂.onward e in
-      (omega arith, omega arith, omega arith))
-      (p.size ∙ reads.size)
+    pub bounded_took : {op end : ℕ} {y : List ℕ} {r : ℕ} → (close ≡ 22 → ⊥) → (close ≡ 23 → ⊥) → Comes (plain close) text inner.at end
+        → NodePut (node op 0 (inner.count - 1) 0) z inner.count y r
+        → Took (about_bounded close) next (put_bounded op) depth text at x count y (record { at = end; count = r })
+    unfolding put_over last
+    bounded_took {op = op} h₁ h₂ leaf p =
+        let a = t.more in
+        let b = t.taken in
+        let c = leaf.onward in
+        took_put t.tree (went_leaf depth (λ k. k t.tree) w₁ leaf (λ k ts. sign_run close depth _ ts h₁ h₂)) p
+        (ap (put_over op 0 0) t.drafted) (omega arith) (omega arith) (further w₁ leaf)
 
-  pub counted_puttable : {op : ℕ} {cmp end : Leaf} {inner : Got} {z : List ℕ} → length text < 18446744073709551615 → op < 256
-      → Reads about_bracket_p next put_or_p depth text at x count z inner
-      → Leafs comparison_token a_comparison text inner.ok inner.at cmp → cmp.value ≤ 4
-      → Leafs number a_number text cmp.ok cmp.at end
-      → Puttable (record { ok = end.ok; at = end.at; count = inner.count }) (node op cmp.value (inner.count - 1) end.value) z
-  counted_puttable long small reads leaf₁ q leaf₂ =
-      record {
-        area = reads.size ∙ ready.area;
-        counted = λ e. let w = reads.took (leaf₁.well (leaf₂.well e)) in omega (arith, w.taken, w.within, ready.taken);
-        fits = λ e few. let n = leaf₂.small e in record { op_fits = small; q_fits = omega arith; a_fits = omega arith; b_fits = omega arith };
-      }
+-- slen: a comparison and a number
+module _ {text : List ℕ} {at : ℕ} (depth : ℕ) (inside : at ≤ length text) where
+  module _ (cmp : Leaf) (leaf₁ : Comes (comparison_token cmp.value) text at cmp.at) where
+    compared_went : Went about_slen depth text at depth cmp.at (λ k. a_number (λ n. k (comparison_of cmp.value, n)))
+    compared_went =
+        went_leaf depth (λ k. a_number (λ n. k (comparison_of cmp.value, n))) (went_none about_slen depth text at inside) leaf₁
+        (λ k ts. comparison_run depth (comparison_of cmp.value) _ ts)
 
-  -- draw: a number and a signal
-  pub draw_went : {opening symbol comma signal end : Leaf} → Opens text at depth opening
-      → Leafs number a_number text opening.ok opening.at symbol
-      → Leafs (sign_of comma_sign) (sign comma_sign) text symbol.ok symbol.at comma → Leafs signalled a_signal text comma.ok comma.at signal
-      → Leafs (sign_of close_round) (sign close_round) text signal.ok signal.at end
-      → Went about_draw depth text at end.ok depth end.at (λ k. k (symbol.value, signal.value))
-      × (end.ok ≡ true → (at < end.at) × (signal.value < 16))
-  draw_went {symbol = symbol} {signal = signal} opened leaf₁ leaf₂ leaf₃ leaf₄ =
-      let q = symbol.value in
-      let i = signal.value in
-      let room = depth - 1 in
-      let s₃ : ℕ → (ℕ × ℕ → State) → ℕ → State = λ q k i. sign close_round (k (q, i)) in
-      let s₂ : ℕ → (ℕ × ℕ → State) → State = λ q k. a_signal (s₃ q k) in
-      let s₁ : (ℕ × ℕ → State) → ℕ → State = λ k q. sign comma_sign (s₂ q k) in
-      let w₁ = went_leaf s₁ room (λ k. s₁ k q) (went_open (λ k. a_number (s₁ k)) opened) leaf₁ (λ _ k ts. number_run room q (s₁ k) ts) in
-      let w₂ = went_leaf (s₂ q) room (s₂ q) w₁ leaf₂ (λ _ k ts. comma_run room (s₂ q k) ts) in
-      let w₃ = went_leaf (s₃ q) room (λ k. s₃ q k i) w₂ leaf₃ (λ _ k ts. signal_run room i (s₃ q k) ts) in (
-        went_leaf (λ k. k (q, i)) depth (λ k. k (q, i)) w₃ leaf₄
-            (λ e k ts. close_back depth (k (q, i)) ts (opened.roomy (leaf₁.well (leaf₂.well (leaf₃.well (leaf₄.well e)))))),
-        λ e. (further w₃ leaf₄ e, leaf₃.small (leaf₄.well e)),
-      )
+    pub slen_unended : Stuck a_number text cmp.at → Outside about_slen depth text at
+    slen_unended never = fails_leaf (λ k n. k (comparison_of cmp.value, n)) compared_went never
 
-  -- at: a name
-  pub at_went : {opening name end : Leaf} → Opens text at depth opening → Leafs named a_name text opening.ok opening.at name
-      → Leafs (sign_of close_round) (sign close_round) text name.ok name.at end
-      → Went about_at depth text at end.ok depth end.at (λ k. k name.value) × (end.ok ≡ true → (at < end.at) × (name.value < 3))
-  at_went {name = name} opened leaf₁ leaf₂ =
-      let u = name.value in
-      let s₁ : (ℕ → State) → ℕ → State = λ k u. sign close_round (k u) in
-      let w₁ =
-      went_leaf s₁ (depth - 1) (λ k. s₁ k u) (went_open (λ k. a_name (s₁ k)) opened) leaf₁ (λ _ k ts. name_run (depth - 1) u (s₁ k) ts) in (
-        went_leaf (λ k. k u) depth (λ k. k u) w₁ leaf₂
-            (λ e k ts. close_back depth (k u) ts (opened.roomy (leaf₁.well (leaf₂.well e)))),
-        λ e. (further w₁ leaf₂ e, leaf₁.small (leaf₂.well e)),
-      )
+    pub slen_took : {end : Leaf} {x : List ℕ} {count : ℕ} {y : List ℕ} {r : ℕ} → cmp.value ≤ 4 → Comes (number end.value) text cmp.at end.at
+        → NodePut (node 24 cmp.value 0 end.value) x count y r
+        → Took about_slen next put_slen depth text at x count y (record { at = end.at; count = r })
+    slen_took {end} {x} {count} known leaf₂ p =
+        let c = comparison_of cmp.value in
+        let n = end.value in
+        took_alone (c, n) (went_leaf depth (λ k. k (c, n)) compared_went leaf₂ (λ k ts. number_run depth n _ ts)) p
+        (slen_same cmp.value n (draft x count) known) (further compared_went leaf₂)
 
-  -- gap: two names and two numbers
-  pub gap_went : {opening first comma₁ second comma₂ least comma₃ most end : Leaf} → Opens text at depth opening
-      → Leafs named a_name text opening.ok opening.at first
-      → Leafs (sign_of comma_sign) (sign comma_sign) text first.ok first.at comma₁ → Leafs named a_name text comma₁.ok comma₁.at second
-      → Leafs (sign_of comma_sign) (sign comma_sign) text second.ok second.at comma₂ → Leafs number a_number text comma₂.ok comma₂.at least
-      → Leafs (sign_of comma_sign) (sign comma_sign) text least.ok least.at comma₃ → Leafs number a_number text comma₃.ok comma₃.at most
-      → Leafs (sign_of close_round) (sign close_round) text most.ok most.at end
-      → Went about_gap depth text at end.ok depth end.at (λ k. k (first.value, second.value, least.value, most.value))
-      × (end.ok ≡ true → (at < end.at) × (first.value < 3) × (second.value < 3) × (least.value ≤ 65535) × (most.value ≤ 65535))
-  gap_went {first = first} {second = second} {least = least} {most = most} {end = end} opened leaf₁ leaf₂ leaf₃ leaf₄ leaf₅ leaf₆ leaf₇ leaf₈ =
-      let u = first.value in
-      let v = second.value in
-      let a = least.value in
-      let b = most.value in
-      let room = depth - 1 in
-      let s₇ : ℕ → ℕ → ℕ → (ℕ × ℕ × ℕ × ℕ → State) → ℕ → State = λ u v a k b. sign close_round (k (u, v, a, b)) in
-      let s₆ : ℕ → ℕ → ℕ → (ℕ × ℕ × ℕ × ℕ → State) → State = λ u v a k. a_number (s₇ u v a k) in
-      let s₅ : ℕ → ℕ → (ℕ × ℕ × ℕ × ℕ → State) → ℕ → State = λ u v k a. sign comma_sign (s₆ u v a k) in
-      let s₄ : ℕ → ℕ → (ℕ × ℕ × ℕ × ℕ → State) → State = λ u v k. a_number (s₅ u v k) in
-      let s₃ : ℕ → (ℕ × ℕ × ℕ × ℕ → State) → ℕ → State = λ u k v. sign comma_sign (s₄ u v k) in
-      let s₂ : ℕ → (ℕ × ℕ × ℕ × ℕ → State) → State = λ u k. a_name (s₃ u k) in
-      let s₁ : (ℕ × ℕ × ℕ × ℕ → State) → ℕ → State = λ k u. sign comma_sign (s₂ u k) in
-      let w₀ = went_open (λ k. a_name (s₁ k)) opened in
-      let w₁ = went_leaf s₁ room (λ k. s₁ k u) w₀ leaf₁ (λ _ k ts. name_run room u (s₁ k) ts) in
-      let w₂ = went_leaf (s₂ u) room (s₂ u) w₁ leaf₂ (λ _ k ts. comma_run room (s₂ u k) ts) in
-      let w₃ = went_leaf (s₃ u) room (λ k. s₃ u k v) w₂ leaf₃ (λ _ k ts. name_run room v (s₃ u k) ts) in
-      let w₄ = went_leaf (s₄ u v) room (s₄ u v) w₃ leaf₄ (λ _ k ts. comma_run room (s₄ u v k) ts) in
-      let w₅ = went_leaf (s₅ u v) room (λ k. s₅ u v k a) w₄ leaf₅ (λ _ k ts. number_run room a (s₅ u v k) ts) in
-      let w₆ = went_leaf (s₆ u v a) room (s₆ u v a) w₅ leaf₆ (λ _ k ts. comma_run room (s₆ u v a k) ts) in
-      let w₇ = went_leaf (s₇ u v a) room (λ k. s₇ u v a k b) w₆ leaf₇ (λ _ k ts. number_run room b (s₇ u v a k) ts) in
-      let well₃ : end.ok ≡ true → second.ok ≡ true = λ e. leaf₄.well (leaf₅.well (leaf₆.well (leaf₇.well (leaf₈.well e)))) in
-      let well₁ : end.ok ≡ true → first.ok ≡ true = λ e. leaf₂.well (leaf₃.well (well₃ e)) in (
-        went_leaf (λ k. k (u, v, a, b)) depth (λ k. k (u, v, a, b)) w₇ leaf₈
-            (λ e k ts. close_back depth (k (u, v, a, b)) ts (opened.roomy (leaf₁.well (well₁ e)))),
-        λ e. (
-          further w₇ leaf₈ e,
-          leaf₁.small (well₁ e),
-          leaf₃.small (well₃ e),
-          leaf₅.small (leaf₆.well (leaf₇.well (leaf₈.well e))),
-          leaf₇.small (leaf₈.well e),
-        ),
-      )
+-- scount and sdur: in brackets a proposition, then a comparison and a number
+abbrev counted_onto : (OrP × Comparison × ℕ → State) → OrP → State
+counted_onto k p = a_comparison (λ c. a_number (λ n. k (p, c, n)))
 
-  -- the one node of slen, draw, at and gap
-  pub alone_puttable : {K : Type 0} {about : K → State} {s : K → State} {ok : Bool} {to : ℕ} {last : Node} → length text < 18446744073709551615
-      → Went about depth text at ok depth to s → (ok ≡ true → NodeFits last) → Puttable (record { ok = ok; at = to; count = count }) last x
-  alone_puttable long w fits =
-      record {
-        area = ready.area;
-        counted = λ e. let h = w.onward e in let h' = w.within e in omega (arith, ready.taken);
-        fits = λ e _. fits e;
-      }
+module _ {depth : ℕ} {text : List ℕ} {at : ℕ} where
+  module _ {x : List ℕ} {count : ℕ} {z : List ℕ} {inner : Got} (t : Took about_bracket_p next put_or_p depth text at x count z inner) where
+    inner_went : Went about_counted depth text at depth inner.at (λ k. counted_onto k t.tree)
+    inner_went = went_at counted_onto (went_took t)
+
+    module _ (cmp : Leaf) (leaf₁ : Comes (comparison_token cmp.value) text inner.at cmp.at) where
+      number_went : Went about_counted depth text at depth cmp.at (λ k. a_number (λ n. k (t.tree, comparison_of cmp.value, n)))
+      number_went =
+          went_leaf depth (λ k. a_number (λ n. k (t.tree, comparison_of cmp.value, n))) inner_went leaf₁
+          (λ k ts. comparison_run depth (comparison_of cmp.value) _ ts)
+
+      pub counted_unended : Stuck a_number text cmp.at → Outside about_counted depth text at
+      counted_unended never = fails_leaf (λ k n. k (t.tree, comparison_of cmp.value, n)) number_went never
+
+      pub counted_took : {op : ℕ} {end : Leaf} {y : List ℕ} {r : ℕ} → cmp.value ≤ 4 → Comes (number end.value) text cmp.at end.at
+          → NodePut (node op cmp.value (inner.count - 1) end.value) z inner.count y r
+          → Took about_counted next (put_counted op) depth text at x count y (record { at = end.at; count = r })
+      unfolding put_over last
+      counted_took {op} {end} known leaf₂ p =
+          let c = comparison_of cmp.value in
+          let n = end.value in
+          let a = t.more in
+          let b = t.taken in
+          let i = t.onward in
+          let d₁ = leaf₁.onward in
+          let d₂ = leaf₂.onward in
+          took_put (t.tree, c, n) (went_leaf depth (λ k. k (t.tree, c, n)) number_went leaf₂ (λ k ts. number_run depth n _ ts)) p
+          (ap (put_over op cmp.value n) t.drafted
+          ∙ ap (λ q. put_over op q n (put_or_p t.tree (draft x count))) (sym (compared cmp.value known)))
+          (omega arith) (omega arith) (omega arith)
+
+-- draw: a number and a signal
+-- what is still to come of it
+abbrev draw_end : ℕ → (ℕ × ℕ → State) → ℕ → State
+draw_end q k i = sign close_round (k (q, i))
+
+abbrev draw_signal : (ℕ × ℕ → State) → ℕ → State
+draw_signal k q = sign comma_sign (a_signal (draw_end q k))
+
+module _ {depth : ℕ} {text : List ℕ} {at : ℕ} where
+  module _ {opening : ℕ} (opens : Opens text at depth opening) where
+    draw₀ : Went about_draw depth text at (depth - 1) opening (λ k. a_number (draw_signal k))
+    draw₀ = went_open (λ k. a_number (draw_signal k)) opens
+
+    module _ {symbol : Leaf} (leaf₁ : Comes (number symbol.value) text opening symbol.at) where
+      draw₁ : Went about_draw depth text at (depth - 1) symbol.at (λ k. sign comma_sign (a_signal (draw_end symbol.value k)))
+      draw₁ =
+          went_leaf (depth - 1) (λ k. draw_signal k symbol.value) draw₀ leaf₁
+          (λ k ts. number_run (depth - 1) symbol.value (draw_signal k) ts)
+
+      pub draw_no_comma : Stuck (sign comma_sign) text symbol.at → Outside about_draw depth text at
+      draw_no_comma never = fails_leaf (λ k. a_signal (draw_end symbol.value k)) draw₁ never
+
+      module _ {comma : ℕ} (leaf₂ : Comes (plain comma_sign) text symbol.at comma) where
+        draw₂ : Went about_draw depth text at (depth - 1) comma (λ k. a_signal (draw_end symbol.value k))
+        draw₂ =
+            went_leaf (depth - 1) (λ k. a_signal (draw_end symbol.value k)) draw₁ leaf₂
+            (λ k ts. comma_run (depth - 1) (a_signal (draw_end symbol.value k)) ts)
+
+        pub draw_no_signal : Stuck a_signal text comma → Outside about_draw depth text at
+        draw_no_signal never = fails_leaf (draw_end symbol.value) draw₂ never
+
+        module _ {signal : Leaf} (leaf₃ : Comes (signalled signal.value) text comma signal.at) where
+          draw₃ : Went about_draw depth text at (depth - 1) signal.at (λ k. sign close_round (k (symbol.value, signal.value)))
+          draw₃ =
+              went_leaf (depth - 1) (λ k. draw_end symbol.value k signal.value) draw₂ leaf₃
+              (λ k ts. signal_run (depth - 1) signal.value (draw_end symbol.value k) ts)
+
+          pub draw_unclosed : Stuck (sign close_round) text signal.at → Outside about_draw depth text at
+          draw_unclosed never = fails_leaf (λ k. k (symbol.value, signal.value)) draw₃ never
+
+          pub draw_took : {end b : ℕ} {x : List ℕ} {count : ℕ} {y : List ℕ} {r : ℕ} → Comes (plain close_round) text signal.at end
+              → b ≡ in_byte symbol.value → NodePut (node 27 b signal.value 0) x count y r
+              → Took about_draw next put_draw depth text at x count y (record { at = end; count = r })
+          draw_took {b = b} {x = x} {count = count} leaf₄ byte p =
+              let t : ℕ × ℕ = (symbol.value, signal.value) in
+              took_alone t
+              (went_leaf depth (λ k. k t) draw₃ leaf₄ (λ k ts. close_back depth (k t) ts opens.roomy)) p
+              (draw_same symbol.value signal.value b (draft x count) byte) (further draw₃ leaf₄)
+
+-- at: a name
+module _ {depth : ℕ} {text : List ℕ} {at : ℕ} where
+  module _ {opening : ℕ} (opens : Opens text at depth opening) where
+    at₀ : Went about_at depth text at (depth - 1) opening (λ k. a_name (λ u. sign close_round (k u)))
+    at₀ = went_open (λ k. a_name (λ u. sign close_round (k u))) opens
+
+    module _ {name : Leaf} (leaf₁ : Comes (named name.value) text opening name.at) where
+      at₁ : Went about_at depth text at (depth - 1) name.at (λ k. sign close_round (k name.value))
+      at₁ =
+          went_leaf (depth - 1) (λ k. sign close_round (k name.value)) at₀ leaf₁
+          (λ k ts. name_run (depth - 1) name.value (λ u. sign close_round (k u)) ts)
+
+      pub at_unclosed : Stuck (sign close_round) text name.at → Outside about_at depth text at
+      at_unclosed never = fails_leaf (λ k. k name.value) at₁ never
+
+      pub at_took : {end : ℕ} {x : List ℕ} {count : ℕ} {y : List ℕ} {r : ℕ} → Comes (plain close_round) text name.at end
+          → NodePut (node 28 0 name.value 0) x count y r
+          → Took about_at next put_at depth text at x count y (record { at = end; count = r })
+      unfolding put_unit_f
+      at_took leaf₂ p =
+          took_alone name.value
+          (went_leaf depth (λ k. k name.value) at₁ leaf₂ (λ k ts. close_back depth (k name.value) ts opens.roomy)) p refl (further at₁ leaf₂)
+
+-- gap: two names and two numbers
+-- what is still to come of it
+abbrev gap_most : ℕ → ℕ → ℕ → (ℕ × ℕ × ℕ × ℕ → State) → ℕ → State
+gap_most u v a k b = sign close_round (k (u, v, a, b))
+
+abbrev gap_least : ℕ → ℕ → (ℕ × ℕ × ℕ × ℕ → State) → ℕ → State
+gap_least u v k a = sign comma_sign (a_number (gap_most u v a k))
+
+abbrev gap_second : ℕ → (ℕ × ℕ × ℕ × ℕ → State) → ℕ → State
+gap_second u k v = sign comma_sign (a_number (gap_least u v k))
+
+abbrev gap_first : (ℕ × ℕ × ℕ × ℕ → State) → ℕ → State
+gap_first k u = sign comma_sign (a_name (gap_second u k))
+
+module _ {depth : ℕ} {text : List ℕ} {at : ℕ} where
+  module _ {opening : ℕ} (opens : Opens text at depth opening) where
+    gap₀ : Went about_gap depth text at (depth - 1) opening (λ k. a_name (gap_first k))
+    gap₀ = went_open (λ k. a_name (gap_first k)) opens
+
+    module _ {first : Leaf} (leaf₁ : Comes (named first.value) text opening first.at) where
+      gap₁ : Went about_gap depth text at (depth - 1) first.at (λ k. sign comma_sign (a_name (gap_second first.value k)))
+      gap₁ =
+          went_leaf (depth - 1) (λ k. gap_first k first.value) gap₀ leaf₁
+          (λ k ts. name_run (depth - 1) first.value (gap_first k) ts)
+
+      pub gap_no_comma₁ : Stuck (sign comma_sign) text first.at → Outside about_gap depth text at
+      gap_no_comma₁ never = fails_leaf (λ k. a_name (gap_second first.value k)) gap₁ never
+
+      module _ {comma₁ : ℕ} (leaf₂ : Comes (plain comma_sign) text first.at comma₁) where
+        gap₂ : Went about_gap depth text at (depth - 1) comma₁ (λ k. a_name (gap_second first.value k))
+        gap₂ =
+            went_leaf (depth - 1) (λ k. a_name (gap_second first.value k)) gap₁ leaf₂
+            (λ k ts. comma_run (depth - 1) (a_name (gap_second first.value k)) ts)
+
+        pub gap_no_second : Stuck a_name text comma₁ → Outside about_gap depth text at
+        gap_no_second never = fails_leaf (gap_second first.value) gap₂ never
+
+        module _ {second : Leaf} (leaf₃ : Comes (named second.value) text comma₁ second.at) where
+          gap₃ : Went about_gap depth text at (depth - 1) second.at
+              (λ k. sign comma_sign (a_number (gap_least first.value second.value k)))
+          gap₃ =
+              went_leaf (depth - 1) (λ k. gap_second first.value k second.value) gap₂ leaf₃
+              (λ k ts. name_run (depth - 1) second.value (gap_second first.value k) ts)
+
+          pub gap_no_comma₂ : Stuck (sign comma_sign) text second.at → Outside about_gap depth text at
+          gap_no_comma₂ never = fails_leaf (λ k. a_number (gap_least first.value second.value k)) gap₃ never
+
+          module _ {comma₂ : ℕ} (leaf₄ : Comes (plain comma_sign) text second.at comma₂) where
+            gap₄ : Went about_gap depth text at (depth - 1) comma₂ (λ k. a_number (gap_least first.value second.value k))
+            gap₄ =
+                went_leaf (depth - 1) (λ k. a_number (gap_least first.value second.value k)) gap₃ leaf₄
+                (λ k ts. comma_run (depth - 1) (a_number (gap_least first.value second.value k)) ts)
+
+            pub gap_no_least : Stuck a_number text comma₂ → Outside about_gap depth text at
+            gap_no_least never = fails_leaf (gap_least first.value second.value) gap₄ never
+
+            module _ {least : Leaf} (leaf₅ : Comes (number least.value) text comma₂ least.at) where
+              gap₅ : Went about_gap depth text at (depth - 1) least.at
+                  (λ k. sign comma_sign (a_number (gap_most first.value second.value least.value k)))
+              gap₅ =
+                  went_leaf (depth - 1) (λ k. gap_least first.value second.value k least.value) gap₄ leaf₅
+                  (λ k ts. number_run (depth - 1) least.value (gap_least first.value second.value k) ts)
+
+              pub gap_no_comma₃ : Stuck (sign comma_sign) text least.at → Outside about_gap depth text at
+              gap_no_comma₃ never = fails_leaf (λ k. a_number (gap_most first.value second.value least.value k)) gap₅ never
+
+              module _ {comma₃ : ℕ} (leaf₆ : Comes (plain comma_sign) text least.at comma₃) where
+                gap₆ : Went about_gap depth text at (depth - 1) comma₃ (λ k. a_number (gap_most first.value second.value least.value k))
+                gap₆ =
+                    went_leaf (depth - 1) (λ k. a_number (gap_most first.value second.value least.value k)) gap₅ leaf₆
+                    (λ k ts. comma_run (depth - 1) (a_number (gap_most first.value second.value least.value k)) ts)
+
+                pub gap_no_most : Stuck a_number text comma₃ → Outside about_gap depth text at
+                gap_no_most never = fails_leaf (gap_most first.value second.value least.value) gap₆ never
+
+                module _ {most : Leaf} (leaf₇ : Comes (number most.value) text comma₃ most.at) where
+                  gap_tree : ℕ × ℕ × ℕ × ℕ
+                  gap_tree = (first.value, second.value, least.value, most.value)
+
+                  gap₇ : Went about_gap depth text at (depth - 1) most.at (λ k. sign close_round (k gap_tree))
+                  unfolding gap_tree
+                  gap₇ =
+                      went_leaf (depth - 1) (λ k. gap_most first.value second.value least.value k most.value) gap₆ leaf₇
+                      (λ k ts. number_run (depth - 1) most.value (gap_most first.value second.value least.value k) ts)
+
+                  pub gap_unclosed : Stuck (sign close_round) text most.at → Outside about_gap depth text at
+                  gap_unclosed never = fails_leaf (λ k. k gap_tree) gap₇ never
+
+                  pub gap_took : {end : ℕ} {x : List ℕ} {count : ℕ} {y : List ℕ} {r : ℕ} → Comes (plain close_round) text most.at end
+                      → NodePut (node 29 (16 * first.value + second.value) least.value most.value) x count y r
+                      → Took about_gap next put_gap depth text at x count y (record { at = end; count = r })
+                  unfolding put_unit_f gap_tree
+                  gap_took leaf₈ p =
+                      took_alone gap_tree
+                      (went_leaf depth (λ k. k gap_tree) gap₇ leaf₈ (λ k ts. close_back depth (k gap_tree) ts opens.roomy)) p refl
+                      (further gap₇ leaf₈)

@@ -1,5 +1,5 @@
 -- The states and nodes of the pieces of a formula, and of pieces joined; nobody need believe it.
-use Rattle.std.specs.Prelude.{ℕ, zero, suc, ◌+◌, ◌≤◌, ◌<◌, List, ◌⊎◌, ◌≡◌}
+use Rattle.std.specs.Prelude.{ℕ, zero, suc, ◌+◌, ◌≤◌, ◌<◌, List, ◌⊎◌, ◌≡◌, Option}
 use Rattle.semantics.specs.Formula.{Comparison}
 use Rattle.grammar.specs.Token.{plain, open_round, close_round, comma_sign}
 use Rattle.grammar.specs.Tree.{OrP, OrF, AndF, ChopF, UnitF, slen_f, draw_f, at_f, gap_f, bracketF}
@@ -99,8 +99,8 @@ abbrev pub about_bracket_f : Place 0 → State
 about_bracket_f w = sign open_round (about_or_f (λ f. sign close_round (has_unit_f w.0 w.1 (bracketF f))))
 
 -- a formula of a level read; a single piece read, from where it is about to be
-abbrev pub ReadsLevel : ℕ → ℕ → List ℕ → ℕ → List ℕ → ℕ → List ℕ → Got → Type 0
+abbrev pub ReadsLevel : ℕ → ℕ → List ℕ → ℕ → List ℕ → ℕ → List ℕ → Option Got → Type 0
 ReadsLevel l room text at x count y r = Closes (about_level l) (has_level l) (put_level l) (Taken l) room text at x count y r
 
-abbrev pub ReadsPiece : (Place 0 → State) → ℕ → List ℕ → ℕ → List ℕ → ℕ → List ℕ → Got → Type 0
+abbrev pub ReadsPiece : (Place 0 → State) → ℕ → List ℕ → ℕ → List ℕ → ℕ → List ℕ → Option Got → Type 0
 ReadsPiece about room text at x count y r = Closes about (has_level 0) put_unit_f (Taken 0) room text at x count y r

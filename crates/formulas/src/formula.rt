@@ -4,7 +4,8 @@ ghost use Rattle.typed.specs.Draft.{put_or_f};
 ghost use Rattle.propositions.specs.Reads.{Ready, Reads, before_f, after};
 ghost use Rattle.formulas.specs.Pieces.{about_bracket_f, ReadsLevel, ReadsPiece};
 
-use crate::piece;
+use crate::piece::piece;
+use lexer::{Token, next};
 use propositions::words::{CHOP_SIGN, CLOSE_ROUND, OPEN_ROUND, STAR_SIGN};
 use propositions::{Got, leaf, nodes};
 use stored::ops;
@@ -14,61 +15,50 @@ const FORMULA: usize = 3;
 
 // A formula in round brackets, from the first bracket on, and the star that may follow it.
 #[cycle(bracket_formula_joined_term)]
-fn bracket(text: &[u8], at: usize, depth: usize, nodes: &mut [u8], count: usize) -> Got
+fn bracket(text: &[u8], at: usize, depth: usize, nodes: &mut [u8], count: usize) -> Option<Got>
     requires { Ready text.now at nodes.old count }
     ensures { ReadsPiece about_bracket_f depth text.now at nodes.old count nodes.new result }
 {
-    let open = leaf::opened(text, at, depth);
-    if !open.ok {
-        return Got {
-            ok: false,
-            at,
-            count,
-        };
-    }
-    let inner = formula(text, open.at, depth - 1, nodes, count);
-    let close = leaf::sign(text, inner.ok, inner.at, CLOSE_ROUND);
-    let star = leaf::sign(text, close.ok, close.at, STAR_SIGN);
-    if star.ok {
-        let got = Got {
-            ok: true,
-            at: star.at,
+    let open = leaf::opened(text, at, depth)?;
+    let inner = formula(text, open, depth - 1, nodes, count)?;
+    let close = leaf::sign(text, inner.at, CLOSE_ROUND)?;
+    let Some(star) = leaf::sign(text, close, STAR_SIGN) else {
+        return Some(Got {
+            at: close,
             count: inner.count,
-        };
-        return nodes::over(got, ops::STAR, 0, 0, nodes);
-    }
-    Got {
-        ok: close.ok,
-        at: close.at,
-        count: inner.count,
-    }
+        });
+    };
+    Some(Got {
+        at: star,
+        count: nodes::over(ops::STAR, 0, 0, nodes, inner.count),
+    })
 }
 
 // A single piece.
 #[cycle(bracket_formula_joined_term)]
-fn term(text: &[u8], at: usize, depth: usize, nodes: &mut [u8], count: usize) -> Got
+fn term(text: &[u8], at: usize, depth: usize, nodes: &mut [u8], count: usize) -> Option<Got>
     requires { Ready text.now at nodes.old count }
     ensures { ReadsLevel 0 depth text.now at nodes.old count nodes.new result }
 {
-    let first = leaf::token(text, true, at);
-    if first.tag != leaf::PLAIN {
-        return Got {
-            ok: false,
-            at,
-            count,
-        };
+    let first = next(text, at);
+    match first.token {
+        Token::Plain(OPEN_ROUND) => bracket(text, at, depth, nodes, count),
+        Token::Plain(word) => piece(text, first.at, depth, nodes, count, word),
+        _ => None,
     }
-    let word = first.value;
-    if word == OPEN_ROUND {
-        return bracket(text, at, depth, nodes, count);
-    }
-    piece::piece(text, first.at, depth, nodes, count, word)
 }
 
 // A formula of this level. The joiner of level 1 is ^ with the op of a chop; one sign before it and one op after it are those of
 // level 2, and so on.
 #[cycle(bracket_formula_joined_term)]
-fn joined(text: &[u8], at: usize, depth: usize, level: usize, nodes: &mut [u8], count: usize) -> Got
+fn joined(
+    text: &[u8],
+    at: usize,
+    depth: usize,
+    level: usize,
+    nodes: &mut [u8],
+    count: usize,
+) -> Option<Got>
     requires ready { Ready text.now at nodes.old count }
     requires known_level { level ≤ 3 }
     ensures { ReadsLevel level depth text.now at nodes.old count nodes.new result }
@@ -78,20 +68,20 @@ fn joined(text: &[u8], at: usize, depth: usize, level: usize, nodes: &mut [u8], 
     }
     let below = level - 1;
     let sign = CHOP_SIGN - below;
-    let mut got = joined(text, at, depth, below, nodes, count);
-    let mut more = leaf::sign(text, got.ok, got.at, sign);
-    while more.ok {
-        let left = nodes::last(got.count);
-        let second = joined(text, more.at, depth, below, nodes, got.count);
-        got = nodes::join(ops::CHOP + below, left, second, nodes);
-        more = leaf::sign(text, got.ok, got.at, sign);
+    let mut got = joined(text, at, depth, below, nodes, count)?;
+    while let Some(more) = leaf::sign(text, got.at, sign) {
+        let second = joined(text, more, depth, below, nodes, got.count)?;
+        got = Got {
+            at: second.at,
+            count: nodes::join(ops::CHOP + below, got.count, nodes, second.count),
+        };
     }
-    got
+    Some(got)
 }
 
 // A formula, in which `depth` more round brackets may be opened.
 #[cycle(bracket_formula_joined_term)]
-pub fn formula(text: &[u8], at: usize, depth: usize, nodes: &mut [u8], count: usize) -> Got
+pub fn formula(text: &[u8], at: usize, depth: usize, nodes: &mut [u8], count: usize) -> Option<Got>
     requires { Ready text.now at nodes.old count }
     ensures { Reads before_f after put_or_f depth text.now at nodes.old count nodes.new result }
 {

@@ -1,28 +1,14 @@
--- The next token of a text as a tag and a number, and what the functions that look at it promise.
-use Rattle.std.specs.Prelude.{ℕ, zero, suc, ◌+◌, ◌-◌, ◌≤◌, ◌<◌, Bool, true, false, ◌&&◌, List, [], ◌∷◌, ◌⊎◌, ◌≡◌, leb, length}
+-- What the functions that read one token promise.
+use Rattle.std.specs.Prelude.{ℕ, ◌+◌, ◌-◌, ◌≤◌, ◌<◌, Bool, false, ◌&&◌, Option, MatchOption, List, [], ◌≡◌, leb, length}
 use Rattle.std.proofs.Math.Option.{none}
 use Rattle.grammar.specs.Token.{Token, plain, signalled, named, number, outside, open_round}
 use Rattle.grammar.specs.Reader.{State, failed, sign, step, run, answer}
-use Rattle.propositions.specs.Reads.{ahead, Small, Leafs}
+use Rattle.propositions.specs.Reads.{ahead, Comes, Stuck, Outside}
 use Rattle.propositions.specs.declared.leaf.Leaf.{Leaf}
-use Rattle.propositions.specs.declared.leaf.Lexeme.{Lexeme}
 
--- tags 0 to 3: a word or sign, a signal, a name, a number
-unfoldable pub token_as : ℕ → ℕ → Token
-token_as zero value = plain value
-token_as (suc zero) value = signalled value
-token_as (suc (suc zero)) value = named value
-token_as (suc (suc (suc zero))) value = number value
-token_as (suc (suc (suc (suc tag)))) value = outside
-
--- The token from `at` on. Tag 4 is a token of no other tag, or that not all went well before; tag 5 is the end of the text.
-pub record Lexes (text : List ℕ) (ok : Bool) (at : ℕ) (r : Lexeme) : Type 0 where
-  pub well : r.tag < 4 → ok ≡ true
-  pub told : ok ≡ true
-      → ((ahead text at ≡ token_as r.tag r.value ∷ ahead text r.at) × (r.tag ≤ 4)) ⊎ ((ahead text at ≡ []) × (r.tag ≡ 5))
-  pub small : r.tag < 4 → Small (token_as r.tag r.value)
-  pub onward : r.tag < 4 → at < r.at
-  pub within : r.tag < 4 → r.at ≤ length text
+-- the word or sign with this number, up to the place after it
+abbrev pub SignRead : ℕ → List ℕ → ℕ → Option ℕ → Type 0
+SignRead n text at r = MatchOption r (Stuck (sign n) text at) (Comes (plain n) text at)
 
 -- the words and signs with these numbers
 unfoldable pub is_word : ℕ → ℕ → Token → Bool
@@ -45,14 +31,20 @@ awaited k = k.state
 abbrev pub word_from : ℕ → ℕ → Token
 word_from low value = plain (low + value)
 
-pub record WordRead (low high : ℕ) (text : List ℕ) (ok : Bool) (at : ℕ) (r : Leaf) : Type 0 where
-  pub leaf : Leafs (word_from low) (awaited {low = low} {high = high} {ts = ahead text at}) text ok at r
-  pub range : r.value ≤ high - low
+pub record WordComes (low high : ℕ) (text : List ℕ) (at : ℕ) (leaf : Leaf) : Type 0 where
+  pub comes : Comes (word_from low leaf.value) text at leaf.at
+  pub range : leaf.value ≤ high - low
 
--- a round bracket opened, where there is room for it
-pub record Opens (text : List ℕ) (at depth : ℕ) (r : Leaf) : Type 0 where
-  pub roomy : r.ok ≡ true → 0 < depth
-  pub goes : r.ok ≡ true → (s : State) → answer (run depth (sign open_round s) (ahead text at)) ≡ answer (run (depth - 1) s (ahead text r.at))
-  pub onward : r.ok ≡ true → at < r.at
-  pub within : r.ok ≡ true → r.at ≤ length text
-  pub fails : r.ok ≡ false → (s : State) → answer (run depth (sign open_round s) (ahead text at)) ≡ none
+abbrev pub WordRead : ℕ → ℕ → List ℕ → ℕ → Option Leaf → Type 0
+WordRead low high text at r = MatchOption r (Stuck (awaited {low = low} {high = high} {ts = ahead text at}) text at) (WordComes low high text at)
+
+-- A round bracket opened, up to the place after it.
+pub record Opens (text : List ℕ) (at depth after : ℕ) : Type 0 where
+  pub roomy : 0 < depth
+  pub goes : (s : State) → answer (run depth (sign open_round s) (ahead text at)) ≡ answer (run (depth - 1) s (ahead text after))
+  pub onward : at < after
+  pub within : after ≤ length text
+
+-- one is opened where there is room for it
+abbrev pub Opened : List ℕ → ℕ → ℕ → Option ℕ → Type 0
+Opened text at depth r = MatchOption r (Outside (sign open_round) depth text at) (Opens text at depth)

@@ -1,6 +1,6 @@
 -- What the reading functions promise one another, in the terms of the grammar's reader; nobody need believe it. `about k` and `has k t`
 -- are the reader's states before and after what is read, where k says what comes after it.
-use Rattle.std.specs.Prelude.{ℕ, ◌+◌, ◌≤◌, ◌<◌, ◌*◌, Bool, true, false, List, ◌∷◌, ◌⊎◌, ◌≡◌, length, drop}
+use Rattle.std.specs.Prelude.{ℕ, ◌+◌, ◌≤◌, ◌<◌, ◌*◌, Option, MatchOption, List, ◌∷◌, ◌⊎◌, ◌≡◌, length, drop}
 use Rattle.std.proofs.Math.Option.{none}
 use Rattle.stored.specs.Layout.{node_size, most_nodes}
 use Rattle.stored.specs.Tree.{comparison_of}
@@ -15,10 +15,7 @@ use Rattle.propositions.specs.declared.leaf.Leaf.{Leaf}
 abbrev pub ahead : List ℕ → ℕ → List Token
 ahead text at = tokens (drop at text)
 
--- a word or sign, whatever the value; a comparison by its number
-abbrev pub sign_of : ℕ → ℕ → Token
-sign_of n value = plain n
-
+-- a comparison by its number
 abbrev pub comparison_token : ℕ → Token
 comparison_token q = plain (comparison_sign (comparison_of q))
 
@@ -30,15 +27,21 @@ Small (named u) = u < 3
 Small (number n) = n ≤ 65535
 Small Token.outside = 0 < 1
 
--- One token from `at` on: the token of the value, or none that can come there. Where not all went well before, not ok.
-pub record Leafs {K : Type 0} (token : ℕ → Token) (about : K → State) (text : List ℕ) (ok : Bool) (at : ℕ) (r : Leaf) : Type 0 where
-  pub well : r.ok ≡ true → ok ≡ true
-  pub next : r.ok ≡ true → ahead text at ≡ token r.value ∷ ahead text r.at
-  pub small : r.ok ≡ true → Small (token r.value)
-  pub onward : r.ok ≡ true → at < r.at
-  pub within : r.ok ≡ true → r.at ≤ length text
-  pub fails : ok ≡ true → r.ok ≡ false → (room : ℕ) (k : K) → answer (run room (about k) (ahead text at)) ≡ none
-  pub stuck : ok ≡ true → r.ok ≡ false → (k : K) (t : Token) (ts : List Token) → ahead text at ≡ t ∷ ts → step (about k) t ≡ failed
+-- This token comes, and `after` is the place after it.
+pub record Comes (token : Token) (text : List ℕ) (at after : ℕ) : Type 0 where
+  pub next : ahead text at ≡ token ∷ ahead text after
+  pub small : Small token
+  pub onward : at < after
+  pub within : after ≤ length text
+
+-- No token comes that can.
+pub record Stuck {K : Type 0} (about : K → State) (text : List ℕ) (at : ℕ) : Type 0 where
+  pub fails : (room : ℕ) (k : K) → answer (run room (about k) (ahead text at)) ≡ none
+  pub stuck : (k : K) (t : Token) (ts : List Token) → ahead text at ≡ t ∷ ts → step (about k) t ≡ failed
+
+-- One token from `at` on: the token of the value, or none that can come there.
+abbrev pub Leafs : {K : Type 0} → (ℕ → Token) → (K → State) → List ℕ → ℕ → Option Leaf → Type 0
+Leafs token about text at r = MatchOption r (Stuck about text at) (λ leaf. Comes (token leaf.value) text at leaf.at)
 
 -- where a piece may be read: an area for the nodes, of which each so far took a byte of the text
 pub record Ready (text : List ℕ) (at : ℕ) (nodes : List ℕ) (count : ℕ) : Type 0 where
@@ -58,12 +61,14 @@ pub record Took {K T : Type 0} (about : K → State) (has : K → T → State) (
   pub more : count < r.count
   pub taken : r.count + at ≤ count + r.at
 
--- ok: a tree was read; not ok: whatever comes after, the text is outside the grammar
-pub record Reads {K T : Type 0} (about : K → State) (has : K → T → State) (put : T → Draft → Draft)
-    (room : ℕ) (text : List ℕ) (at : ℕ) (x : List ℕ) (count : ℕ) (y : List ℕ) (r : Got) : Type 0 where
-  pub took : r.ok ≡ true → Took about has put room text at x count y r
-  pub fails : r.ok ≡ false → (k : K) → answer (run room (about k) (ahead text at)) ≡ none
-  pub size : length y ≡ length x
+-- whatever comes after, the text is outside the grammar
+pub record Outside {K : Type 0} (about : K → State) (room : ℕ) (text : List ℕ) (at : ℕ) : Type 0 where
+  pub fails : (k : K) → answer (run room (about k) (ahead text at)) ≡ none
+
+-- a tree was read, or none is there
+abbrev pub Reads : {K T : Type 0} → (K → State) → (K → T → State) → (T → Draft → Draft) → ℕ → List ℕ → ℕ → List ℕ → ℕ → List ℕ → Option Got
+    → Type 0
+Reads about has put room text at x count y r = MatchOption r (Outside about room text at) (Took about has put room text at x count y)
 
 -- after a piece comes what k says of it
 abbrev pub next : {T : Type 0} → (T → State) → T → State
@@ -84,9 +89,15 @@ before_p k = about_or_p (λ p. sign k.wanted (k.onto p))
 abbrev pub before_f : Then OrF → State
 before_f k = about_or_f (λ f. sign k.wanted (k.onto f))
 
--- Reads, and what is read ends here: none of the signs that `Taken` names can be read after it.
-pub record Closes {K T : Type 0} (about : K → State) (has : K → T → State) (put : T → Draft → Draft)
+-- Took, and what is read ends here: none of the signs that `Taken` names can be read after it.
+pub record Ended {K T : Type 0} (about : K → State) (has : K → T → State) (put : T → Draft → Draft)
     (Taken : ℕ → Type 0) (room : ℕ) (text : List ℕ) (at : ℕ) (x : List ℕ) (count : ℕ) (y : List ℕ) (r : Got) : Type 0 where
-  pub reads : Reads about has put room text at x count y r
-  pub stops : (ok : r.ok ≡ true) (k : K) (n : ℕ) (ts : List Token) → Taken n → ahead text r.at ≡ plain n ∷ ts
-      → answer (run room (has k (reads.took ok).tree) (plain n ∷ ts)) ≡ none
+  pub took : Took about has put room text at x count y r
+  pub stops : (k : K) (n : ℕ) (ts : List Token) → Taken n → ahead text r.at ≡ plain n ∷ ts
+      → answer (run room (has k took.tree) (plain n ∷ ts)) ≡ none
+
+-- Reads, and what is read ends there.
+abbrev pub Closes : {K T : Type 0} → (K → State) → (K → T → State) → (T → Draft → Draft) → (ℕ → Type 0) → ℕ → List ℕ → ℕ → List ℕ → ℕ
+    → List ℕ → Option Got → Type 0
+Closes about has put Taken room text at x count y r =
+    MatchOption r (Outside about room text at) (Ended about has put Taken room text at x count y)

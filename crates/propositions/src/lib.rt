@@ -6,10 +6,9 @@ pub mod nodes;
 pub mod proposition;
 pub mod words;
 
-// Whether a piece was read, the place after it, and how many nodes there are with its own.
-#[derive(Drop)]
+// The place after a piece that was read, and how many nodes there are with its own.
+#[derive(Clone, Copy)]
 pub struct Got {
-    pub ok: bool,
     pub at: usize,
     pub count: usize,
 }

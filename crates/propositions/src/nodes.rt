@@ -1,64 +1,35 @@
-// Nodes put after what was read, where all went well.
-ghost use Rattle.std.specs.Prelude.{◌≡◌, ◌-◌};
+// Nodes put over those of what was read.
+ghost use Rattle.std.specs.Prelude.{◌-◌};
 ghost use Rattle.typed.specs.Draft.{node};
-ghost use Rattle.propositions.specs.Nodes.{Puttable, NodePut, Joinable, JoinPut};
+ghost use Rattle.propositions.specs.Nodes.{Puttable, NodePut, Joinable};
 
-use crate::Got;
 use stored::Node;
 use typed::draft;
 
-// The number of the node put last, of so many.
-pub fn last(count: usize) -> usize
-    ensures { result ≡ count - 1 }
-{
-    if count == 0 { 0 } else { count - 1 }
-}
-
-// The node x, put where all went well.
-pub fn put(got: Got, x: Node, nodes: &mut [u8]) -> Got
-    requires { Puttable got x nodes.old }
-    ensures { NodePut got x nodes.old nodes.new result }
-{
-    let at = got.at;
-    let count = got.count;
-    if got.ok {
-        return Got {
-            ok: true,
-            at,
-            count: draft::put(nodes, count, x),
-        };
-    }
-    Got {
-        ok: false,
-        at,
-        count,
-    }
-}
-
-// One node more over the last one, put where all went well.
-pub fn over(got: Got, op: usize, q: usize, b: usize, nodes: &mut [u8]) -> Got
-    requires { Puttable got (node op q (got.count - 1) b) nodes.old }
-    ensures { NodePut got (node op q (got.count - 1) b) nodes.old nodes.new result }
+// One node more over the last of so many; the answer is how many there are with it.
+pub fn over(op: usize, q: usize, b: usize, nodes: &mut [u8], count: usize) -> usize
+    requires { Puttable (node op q (count - 1) b) nodes.old count }
+    ensures { NodePut (node op q (count - 1) b) nodes.old count nodes.new result }
 {
     let x = Node {
         op,
         q,
-        a: last(got.count),
+        a: count.saturating_sub(1),
         b,
     };
-    put(got, x, nodes)
+    draft::put(nodes, count, x)
 }
 
-// A node over two operands, of which the first ends in node `left` and the second is put last.
-pub fn join(op: usize, left: usize, second: Got, nodes: &mut [u8]) -> Got
-    requires { Joinable op left second nodes.old }
-    ensures { JoinPut op left second nodes.old nodes.new result }
+// One node more over two operands, of which the first has the last of the first `left` nodes, and the second the last of all.
+pub fn join(op: usize, left: usize, nodes: &mut [u8], count: usize) -> usize
+    requires { Joinable op (left - 1) nodes.old count }
+    ensures { NodePut (node op 0 (left - 1) (count - 1)) nodes.old count nodes.new result }
 {
-    let node = Node {
+    let x = Node {
         op,
         q: 0,
-        a: left,
-        b: last(second.count),
+        a: left.saturating_sub(1),
+        b: count.saturating_sub(1),
     };
-    put(second, node, nodes)
+    draft::put(nodes, count, x)
 }

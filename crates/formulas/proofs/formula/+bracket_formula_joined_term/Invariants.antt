@@ -1,9 +1,10 @@
 -- The cycle of calls {bracket, formula, joined, term}: pieces joined at a level are read by the level below it, single pieces by `term`, and
 -- a bracketed one by `bracket`, inside which there is a formula again, with one bracket fewer to open. The measure goes by the brackets
 -- left, then the level.
-use Prim.Native.Nat.{◌+◌, ◌*◌}
+use Prim.Native.Nat.{◌+◌, ◌-◌, ◌*◌}
+use lib.ListN.{length}
 use Rattle.formulas.specs.Pieces.{about_level, has_level, put_level, Taken}
-use Rattle.propositions.proofs.Chains.{Turns, left}
+use Rattle.propositions.specs.Reads.{Ended}
 use Rattle.formulas.proofs.formula.+bracket_formula_joined_term.Given as goal
 
 abbrev pub decreases-bracket : goal.decreases-bracket
@@ -20,7 +21,7 @@ decreases-term l = 7 * l.depth + 1
 
 abbrev pub invariant-joined-loop-more : goal.invariant-joined-loop-more
 invariant-joined-loop-more l =
-    Turns l.sign (about_level l.level) (has_level l.level) (put_level l.level) (Taken l.below) l.depth l.text l.at l.count l.initial.nodes l.initial.got l.nodes l.got l.more
+    Ended (about_level l.level) (has_level l.level) (put_level l.level) (Taken l.below) l.depth l.text l.at l.fn.nodes l.count l.nodes l.got
 
 abbrev pub decreases-joined-loop-more : goal.decreases-joined-loop-more
-decreases-joined-loop-more l = left l.text l.more
+decreases-joined-loop-more l = length l.text - l.got.at

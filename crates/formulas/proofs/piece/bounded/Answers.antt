@@ -1,14 +1,15 @@
 -- `formulas::piece::bounded` meets its contract.
-use native.Mathlib.Omega.{arith}
-use Rattle.formulas.proofs.Pieces.{bounded_puttable, bounded_reads}
+use Rattle.formulas.proofs.Pieces.{bounded_none, bounded_unclosed, bounded_took}
 use Rattle.formulas.proofs.piece.bounded.Goals as goal
 
-pub over-requires : goal.over-requires
-over-requires c =
-    bounded_puttable c.requires.ready (omega arith) c.requires.known_sign.1 c.proposition-inner.ensures c.sign-end.ensures
+pub returns-in_err-inner : goal.returns-in_err-inner
+returns-in_err-inner c = rw c.from_residual.ensures (bounded_none c.requires.known_sign.0 c.in_err-inner.ensures)
+
+pub returns-in_err-end : goal.returns-in_err-end
+returns-in_err-end c =
+    rw c.from_residual-in_err-end.ensures (bounded_unclosed c.requires.known_sign.0 c.in_ok-inner.ensures c.in_err-end.ensures)
 
 pub returns : goal.returns
 returns c =
     let pre = c.requires in
-    bounded_reads pre.ready pre.known_sign.0 pre.other_word.0 pre.other_word.1 c.proposition-inner.ensures c.sign-end.ensures
-    c.over.ensures
+    bounded_took pre.known_sign.0 c.in_ok-inner.ensures pre.other_word.0 pre.other_word.1 c.in_ok-end.ensures c.over.ensures

@@ -1,15 +1,13 @@
 -- `formulas::piece::counted` meets its contract.
-use native.Mathlib.Omega.{arith}
-use Rattle.formulas.proofs.Pieces.{counted_puttable, counted_reads}
+use Rattle.formulas.proofs.Pieces.{counted_unended, counted_took}
 use Rattle.formulas.proofs.piece.counted.Goals as goal
 
-pub over-requires : goal.over-requires
-over-requires c =
-    let compared = c.comparison-compared in
-    counted_puttable c.requires.ready (omega (arith, c.well_formed.0)) c.requires.known_op c.bracket-inner.ensures compared.ensures.leaf_read
-    compared.ensures.known_value c.number-end.ensures
+pub returns-in_err-end : goal.returns-in_err-end
+returns-in_err-end c =
+    rw c.from_residual-in_err-end.ensures
+    (counted_unended c.in_ok-inner.ensures c.in_ok-compared.compared c.in_ok-compared.ensures.leaf_read c.in_err-end.ensures)
 
 pub returns : goal.returns
 returns c =
-    counted_reads c.requires.ready c.bracket-inner.ensures c.comparison-compared.ensures.leaf_read c.comparison-compared.ensures.known_value
-    c.number-end.ensures c.over.ensures
+    let compared = c.in_ok-compared.ensures in
+    counted_took c.in_ok-inner.ensures c.in_ok-compared.compared compared.leaf_read compared.known_value c.in_ok-end.ensures c.over.ensures

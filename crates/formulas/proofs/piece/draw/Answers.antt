@@ -1,24 +1,22 @@
 -- `formulas::piece::draw` meets its contract.
-use native.Mathlib.Omega.{arith}
-use mathlib.Core.Path.{refl}
-use Rattle.formulas.proofs.Pieces.{draw_went, draw_same, alone_puttable}
-use Rattle.propositions.proofs.Went.{reads_alone}
+use Rattle.formulas.proofs.Pieces.{draw_no_comma, draw_no_signal, draw_unclosed, draw_took}
 use Rattle.formulas.proofs.piece.draw.Goals as goal
 
-pub put-requires : goal.put-requires
-put-requires c =
-    let went =
-    draw_went c.requires c.opened-open.ensures c.number-symbol.ensures c.sign-comma.ensures
-    c.signal-signal.ensures c.sign-end.ensures in
-    alone_puttable {depth = c.args.depth} c.requires (omega arith) went.0
-    (λ e.
-    let small = (went.1 e).1 in
-    record { op_fits = omega arith; q_fits = c.in_byte.ensures.1; a_fits = omega arith; b_fits = omega arith })
+pub returns-in_err-comma : goal.returns-in_err-comma
+returns-in_err-comma c =
+    rw c.from_residual-in_err-comma.ensures (draw_no_comma c.in_ok-open.ensures c.in_ok-symbol.ensures c.in_err-comma.ensures)
+
+pub returns-in_err-signal : goal.returns-in_err-signal
+returns-in_err-signal c =
+    rw c.from_residual-in_err-signal.ensures
+    (draw_no_signal c.in_ok-open.ensures c.in_ok-symbol.ensures c.in_ok-comma.ensures c.in_err-signal.ensures)
+
+pub returns-in_err-end : goal.returns-in_err-end
+returns-in_err-end c =
+    rw c.from_residual-in_err-end.ensures
+    (draw_unclosed c.in_ok-open.ensures c.in_ok-symbol.ensures c.in_ok-comma.ensures c.in_ok-signal.ensures c.in_err-end.ensures)
 
 pub returns : goal.returns
 returns c =
-    let went =
-    draw_went c.requires c.opened-open.ensures c.number-symbol.ensures c.sign-comma.ensures c.signal-signal.ensures
-    c.sign-end.ensures in
-    reads_alone _ refl went.0 c.put.ensures (λ _. draw_same _ _ _ _ c.in_byte.ensures.0)
-    (λ e. (went.1 e).0)
+    draw_took c.in_ok-open.ensures c.in_ok-symbol.ensures c.in_ok-comma.ensures c.in_ok-signal.ensures c.in_ok-end.ensures
+    c.in_byte.ensures.0 (record { drafted = c.put.ensures })

@@ -1,62 +1,43 @@
 -- `formulas::piece::gap` meets its contract.
-use native.Mathlib.Omega.{arith}
-use mathlib.Core.Path.{refl}
-use borrow.Author.Tests.{not-true, not-false}
-use Rattle.typed.specs.Draft.{put_unit_f}
-use Rattle.formulas.proofs.Pieces.{gap_went, alone_puttable}
-use Rattle.propositions.proofs.Went.{went_well, reads_none, reads_alone}
+use Rattle.formulas.proofs.Pieces.{gap_no_comma₁, gap_no_second, gap_no_comma₂, gap_no_least, gap_no_comma₃, gap_no_most, gap_unclosed, gap_took}
 use Rattle.formulas.proofs.piece.gap.Goals as goal
 
-pub returns-then-not-end : goal.returns-then-not-end
-returns-then-not-end c =
-    let went =
-    gap_went c.requires c.opened-open.ensures c.name-first.ensures c.sign-comma1.ensures c.name-second.ensures
-    c.sign-comma2.ensures
-    c.number-least.ensures c.sign-comma3.ensures c.number-most.ensures c.sign-end.ensures
-    in
-    reads_none refl (went.0.fails (not-true c.sign-end.result.ok c.if-not-end.true)) refl
+pub returns-in_err-comma1 : goal.returns-in_err-comma1
+returns-in_err-comma1 c =
+    rw c.from_residual-in_err-comma1.ensures
+    (gap_no_comma₁ c.in_ok-open.ensures c.in_ok-first.ensures c.in_err-comma1.ensures)
 
-pub overflow_mul-x : goal.overflow_mul-x
-overflow_mul-x c =
-    let went =
-    gap_went c.requires c.opened-open.ensures c.name-first.ensures c.sign-comma1.ensures c.name-second.ensures
-    c.sign-comma2.ensures
-    c.number-least.ensures c.sign-comma3.ensures c.number-most.ensures c.sign-end.ensures in
-    let facts = went.1 (not-false c.sign-end.result.ok c.if-not-end.false) in
-    omega (arith, facts.1)
+pub returns-in_err-second : goal.returns-in_err-second
+returns-in_err-second c =
+    rw c.from_residual-in_err-second.ensures
+    (gap_no_second c.in_ok-open.ensures c.in_ok-first.ensures c.in_ok-comma1.ensures c.in_err-second.ensures)
 
-pub overflow_add-x : goal.overflow_add-x
-overflow_add-x c =
-    let went =
-    gap_went c.requires c.opened-open.ensures c.name-first.ensures c.sign-comma1.ensures c.name-second.ensures
-    c.sign-comma2.ensures
-    c.number-least.ensures c.sign-comma3.ensures c.number-most.ensures c.sign-end.ensures in
-    let facts = went.1 (not-false c.sign-end.result.ok c.if-not-end.false) in
-    omega (arith, facts.1, facts.2)
+pub returns-in_err-comma2 : goal.returns-in_err-comma2
+returns-in_err-comma2 c =
+    rw c.from_residual-in_err-comma2.ensures
+    (gap_no_comma₂ c.in_ok-open.ensures c.in_ok-first.ensures c.in_ok-comma1.ensures c.in_ok-second.ensures c.in_err-comma2.ensures)
 
-pub put-requires : goal.put-requires
-put-requires c =
-    let went =
-    gap_went c.requires c.opened-open.ensures c.name-first.ensures c.sign-comma1.ensures c.name-second.ensures
-    c.sign-comma2.ensures
-    c.number-least.ensures c.sign-comma3.ensures c.number-most.ensures c.sign-end.ensures in
-    let ok = not-false c.sign-end.result.ok c.if-not-end.false in
-    let facts = went.1 ok in
-    alone_puttable {depth = c.args.depth} c.requires (omega (arith, c.well_formed.0)) (went_well ok went.0)
-    (λ _.
-    record {
-      op_fits = omega arith;
-      q_fits = omega (arith, facts.1, facts.2);
-      a_fits = omega (arith, facts.3);
-      b_fits = omega (arith, facts.4);
-    })
+pub returns-in_err-least : goal.returns-in_err-least
+returns-in_err-least c =
+    rw c.from_residual-in_err-least.ensures
+    (gap_no_least c.in_ok-open.ensures c.in_ok-first.ensures c.in_ok-comma1.ensures c.in_ok-second.ensures c.in_ok-comma2.ensures c.in_err-least.ensures)
+
+pub returns-in_err-comma3 : goal.returns-in_err-comma3
+returns-in_err-comma3 c =
+    rw c.from_residual-in_err-comma3.ensures
+    (gap_no_comma₃ c.in_ok-open.ensures c.in_ok-first.ensures c.in_ok-comma1.ensures c.in_ok-second.ensures c.in_ok-comma2.ensures c.in_ok-least.ensures c.in_err-comma3.ensures)
+
+pub returns-in_err-most : goal.returns-in_err-most
+returns-in_err-most c =
+    rw c.from_residual-in_err-most.ensures
+    (gap_no_most c.in_ok-open.ensures c.in_ok-first.ensures c.in_ok-comma1.ensures c.in_ok-second.ensures c.in_ok-comma2.ensures c.in_ok-least.ensures c.in_ok-comma3.ensures c.in_err-most.ensures)
+
+pub returns-in_err-end : goal.returns-in_err-end
+returns-in_err-end c =
+    rw c.from_residual-in_err-end.ensures
+    (gap_unclosed c.in_ok-open.ensures c.in_ok-first.ensures c.in_ok-comma1.ensures c.in_ok-second.ensures c.in_ok-comma2.ensures c.in_ok-least.ensures c.in_ok-comma3.ensures c.in_ok-most.ensures c.in_err-end.ensures)
 
 pub returns : goal.returns
-unfolding put_unit_f
 returns c =
-    let went =
-    gap_went c.requires c.opened-open.ensures c.name-first.ensures c.sign-comma1.ensures c.name-second.ensures
-    c.sign-comma2.ensures
-    c.number-least.ensures c.sign-comma3.ensures c.number-most.ensures c.sign-end.ensures in
-    let ok = not-false c.sign-end.result.ok c.if-not-end.false in
-    reads_alone _ refl (went_well ok went.0) c.put.ensures (λ _. refl) (λ _. (went.1 ok).0)
+    gap_took c.in_ok-open.ensures c.in_ok-first.ensures c.in_ok-comma1.ensures c.in_ok-second.ensures c.in_ok-comma2.ensures c.in_ok-least.ensures c.in_ok-comma3.ensures c.in_ok-most.ensures c.in_ok-end.ensures
+    (record { drafted = c.put.ensures })

@@ -1,23 +1,15 @@
 -- `formulas::piece::slen` meets its contract.
-use native.Mathlib.Omega.{arith}
-use mathlib.Core.Path.{refl}
-use Rattle.formulas.proofs.Pieces.{slen_went, slen_same, alone_puttable}
-use Rattle.propositions.proofs.Went.{reads_alone}
+use Rattle.formulas.proofs.Pieces.{slen_unended, slen_took}
 use Rattle.formulas.proofs.piece.slen.Goals as goal
 
-pub put-requires : goal.put-requires
-put-requires c =
-    let number = c.number-end.ensures in
-    let compared = c.comparison-compared.ensures in
-    alone_puttable {depth = c.args.depth} c.requires (omega arith) (slen_went c.requires compared.leaf_read number).0
-    (λ e.
-    let small = number.small e in
-    record { op_fits = omega arith; q_fits = omega (arith, compared.known_value); a_fits = omega arith; b_fits = omega arith })
+pub returns-in_err-end : goal.returns-in_err-end
+returns-in_err-end c =
+    λ depth.
+    rw c.from_residual-in_err-end.ensures
+    (slen_unended depth c.requires.inside c.in_ok-compared.compared c.in_ok-compared.ensures.leaf_read c.in_err-end.ensures)
 
 pub returns : goal.returns
 returns c =
-    let compared = c.comparison-compared in
-    let number = c.number-end in
-    let went = slen_went c.requires compared.ensures.leaf_read number.ensures in
-    reads_alone _ refl went.0 c.put.ensures
-    (λ _. slen_same compared.result.value number.result.value _ compared.ensures.known_value) went.1
+    let compared = c.in_ok-compared.ensures in
+    λ depth.
+    slen_took depth c.requires.inside c.in_ok-compared.compared compared.leaf_read compared.known_value c.in_ok-end.ensures (record { drafted = c.put.ensures })

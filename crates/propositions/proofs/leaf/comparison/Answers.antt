@@ -2,5 +2,5 @@
 use Rattle.propositions.proofs.Leaves.{comparison_leafs}
 use Rattle.propositions.proofs.leaf.comparison.Goals as goal
 
-pub returns : goal.returns
-returns c = record { leaf_read = comparison_leafs c.word.ensures; known_value = c.word.ensures.range }
+pub returns-clause-leaf_read : goal.returns-clause-leaf_read
+returns-clause-leaf_read c = comparison_leafs _ _ c.word.result c.word.ensures

@@ -1,10 +1,10 @@
 -- The cycle of calls {atom, both, bracket, proposition, unit}: in round brackets a piece is a proposition again, with one bracket fewer to open.
-use Prim.Native.Nat.{◌+◌, ◌*◌}
-use Rattle.grammar.specs.Token.{or_sign, and_sign}
+use Prim.Native.Nat.{◌+◌, ◌-◌, ◌*◌}
+use lib.ListN.{length}
 use Rattle.grammar.specs.Reader.{about_or_p, has_or_p}
 use Rattle.typed.specs.Draft.{put_or_p, put_and_p}
+use Rattle.propositions.specs.Reads.{Ended}
 use Rattle.propositions.specs.Propositions.{about_both, has_both, ByAnd}
-use Rattle.propositions.proofs.Chains.{Turns, left}
 use Rattle.propositions.proofs.Propositions.{ByNone}
 use Rattle.propositions.proofs.proposition.+atom_both_bracket_proposition_unit.Given as goal
 
@@ -25,15 +25,13 @@ abbrev pub decreases-unit : goal.decreases-unit
 decreases-unit l = 5 * l.depth + 2
 
 abbrev pub invariant-both-loop-joiner : goal.invariant-both-loop-joiner
-invariant-both-loop-joiner l =
-    Turns and_sign about_both has_both put_and_p ByNone l.depth l.text l.at l.count l.initial.nodes l.initial.got l.nodes l.got l.joiner
+invariant-both-loop-joiner l = Ended about_both has_both put_and_p ByNone l.depth l.text l.at l.fn.nodes l.count l.nodes l.got
 
 abbrev pub decreases-both-loop-joiner : goal.decreases-both-loop-joiner
-decreases-both-loop-joiner l = left l.text l.joiner
+decreases-both-loop-joiner l = length l.text - l.got.at
 
 abbrev pub invariant-proposition-loop-joiner : goal.invariant-proposition-loop-joiner
-invariant-proposition-loop-joiner l =
-    Turns or_sign about_or_p has_or_p put_or_p ByAnd l.depth l.text l.at l.count l.initial.nodes l.initial.got l.nodes l.got l.joiner
+invariant-proposition-loop-joiner l = Ended about_or_p has_or_p put_or_p ByAnd l.depth l.text l.at l.fn.nodes l.count l.nodes l.got
 
 abbrev pub decreases-proposition-loop-joiner : goal.decreases-proposition-loop-joiner
-decreases-proposition-loop-joiner l = left l.text l.joiner
+decreases-proposition-loop-joiner l = length l.text - l.got.at
