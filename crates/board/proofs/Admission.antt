@@ -1,6 +1,6 @@
 -- Whether a board takes a cycle: the order of the refusals, and what is known where none applies.
-use Prim.Native.Nat.{ℕ, ◌-◌, ◌^◌, ◌≤◌, ◌<◌}
-use mathlib.Core.Bool.{Bool, true, false}
+use Prim.Native.Nat.{ℕ, zero, suc, ◌-◌, ◌^◌, ◌≤◌, ◌<◌}
+use mathlib.Core.Bool.{Bool, true, false, ◌&&◌}
 use mathlib.Core.List.{List, [], ◌∷◌}
 use mathlib.Core.Path.{◌≡◌, refl, sym, ◌∙◌, ap}
 use native.Mathlib.Omega.{arith}
@@ -14,7 +14,10 @@ use Rattle.stored.specs.declared.refusal.Refusal.{Refusal}
 use Rattle.stored.specs.declared.refusal.Refusal.TheVariants.{InvalidCycles, FewWords, InvalidCycle, BoardFull}
 use Rattle.stored.specs.Refusal.{number_of, last_number}
 use Rattle.stored.proofs.Refusals.{refusal_applies, answered_value, answered_refusal, of_value, of_refusal}
-use Rattle.stored.specs.Bytes.{lowest}
+use Rattle.std.specs.List.{list_all}
+use Rattle.std.proofs.lemmas.List.Folds.{list_all_more}
+use native.Mathlib.Numerals.{add-one}
+use Rattle.stored.specs.Bytes.{every_below, lowest}
 use Rattle.stored.specs.Layout.{most_cycles, least_words}
 use Rattle.stored.specs.Sheet.{header_of, sheet_refusal, sheet_rules, sheet_answer}
 use Rattle.stored.proofs.Rules.{every_at, lowest_kept}
@@ -54,6 +57,14 @@ takes b cycle words e =
       cycle_small = ltb-true cycle (2 ^ s) r₂₁.0;
       room = ltb-true b.taken most_cycles r₂₂.0;
     }
+
+-- the first so many cycles of a list, one by one
+pub held_listed : (s : ℕ) (cycles : List ℕ) (n : ℕ) → n ≤ length cycles → list_all (cycle_fits s) (take n cycles) ≡ every_below n (held_at s cycles)
+unfolding every_below held_at
+held_listed s cycles zero l = refl
+held_listed s cycles (suc n) l =
+    rw (← add-one n) (list_all_more (cycle_fits s) cycles n 0 (omega arith))
+    ∙ ap (λ (b : Bool). b && cycle_fits s (get_or cycles n 0)) (held_listed s cycles n (omega arith))
 
 -- ---- the order
 -- the part of a board's bytes that is its sheet

@@ -25,13 +25,7 @@ fn are_held(cycles: &[u16], taken: usize, s: usize) -> bool
     if MOST_CYCLES < taken {
         return false;
     }
-    let mut ok = true;
-    let mut i = 0;
-    while i < taken {
-        ok = ok & is_below(cycles[i] as usize, s);
-        i += 1;
-    }
-    ok
+    cycles[..taken].iter().all(|cycle| is_below(*cycle as usize, s))
 }
 
 // How many signals the board's sheet has, where the board takes the cycle. Refused are its sheet by 1 to 9, its cycles by 13, the words by

@@ -66,9 +66,8 @@ fn main(rt: HostRuntime) -> io::Result<()> {
     let mut writer = rt.stdout();
     let mut input = [0u8; HELD_SHEET];
     let got = read_sheet(&mut reader, &mut input)?;
-    let opened = open_line(&input[..got]);
-    if opened.refused != 0 {
-        return write_line(&mut writer, opened.line);
+    match open_line(&input[..got]) {
+        Ok(board) => watch(&mut reader, &mut writer, board),
+        Err(line) => write_line(&mut writer, line),
     }
-    watch(&mut reader, &mut writer, opened.board)
 }
