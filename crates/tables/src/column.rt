@@ -8,6 +8,7 @@ use crate::words::row_at;
 use rows::mask::below;
 use stored::Node;
 use stored::nodes::{a_use, q_use};
+use stored::ops::{AND_P, FALSE, NAME, NOT_P, SIGNAL, TRUE};
 use traces::trace::FIRST_NAME;
 
 // Column k.
@@ -32,16 +33,15 @@ pub fn proposition(x: Node, before: usize, n: usize, columns: &[u64], words: &[u
     requires known_op { (1 ≤ x.op) × (x.op ≤ 7) × (n ≤ 64) × (length columns.now ≡ 19) × (64 * before ≤ length words.now) }
     ensures { result ≡ column_of (proposition_op x.op) x n columns.now words.now }
 {
-    let op = x.op;
     let a = x.a;
     let b = x.b;
-    match op {
-        1 => 0,
-        2 => below(n),
-        3 => column_at(columns, a),
-        4 => name_column(columns, a),
-        5 => below(n) & !row_at(words, a, 0),
-        6 => row_at(words, a, 0) & row_at(words, b, 0),
+    match x.op {
+        FALSE => 0,
+        TRUE => below(n),
+        SIGNAL => column_at(columns, a),
+        NAME => name_column(columns, a),
+        NOT_P => below(n) & !row_at(words, a, 0),
+        AND_P => row_at(words, a, 0) & row_at(words, b, 0),
         _ => row_at(words, a, 0) | row_at(words, b, 0),
     }
 }
@@ -52,24 +52,18 @@ pub fn first(x: Node, before: usize, columns: &[u64], words: &[u64]) -> u64
     requires long_enough { (length columns.now ≡ 19) × (64 * before ≤ length words.now) }
     ensures { result ≡ first_column x.op x columns.now words.now }
 {
-    let op = x.op;
-    let q = x.q;
-    let a = x.a;
-    let what = a_use(op);
-    if what == 7 {
-        return row_at(words, a, 0);
+    match a_use(x.op) {
+        7 => row_at(words, x.a, 0),
+        1 => column_at(columns, x.a),
+        2 => name_column(columns, x.a),
+        _ => {
+            if q_use(x.op) == 5 {
+                name_column(columns, x.q / 16)
+            } else {
+                0
+            }
+        }
     }
-    if what == 1 {
-        return column_at(columns, a);
-    }
-    if what == 2 {
-        return name_column(columns, a);
-    }
-    let two = q_use(op);
-    if two == 5 {
-        return name_column(columns, q / 16);
-    }
-    0
 }
 
 // The column of a gap's second name.
@@ -78,11 +72,9 @@ pub fn second(x: Node, before: usize, columns: &[u64]) -> u64
     requires long_enough { length columns.now ≡ 19 }
     ensures { result ≡ second_column x.op x columns.now }
 {
-    let op = x.op;
-    let q = x.q;
-    let what = q_use(op);
-    if what == 5 {
-        return name_column(columns, q % 16);
+    if q_use(x.op) == 5 {
+        name_column(columns, x.q % 16)
+    } else {
+        0
     }
-    0
 }

@@ -1,38 +1,46 @@
 -- `tables::column::first` meets its contract.
-use mathlib.Core.Path.{sym, ◌∙◌}
-use native.Mathlib.Omega.{arith}
-use borrow.Author.Tests.{eq-eqb, ne_eqb}
+use Rattle.std.proofs.Common.{◌≡◌, refl, sym, ◌∙◌, ne_eqb, arith}
+use Rattle.stored.specs.Node.{a_use, q_use}
 use Rattle.tables.specs.Step.{first_column}
 use Rattle.tables.proofs.column.first.Goals as goal
 
 pub row_at-requires : goal.row_at-requires
-row_at-requires c = omega (arith, c.requires.usable.a_proposition (sym c.a_use-what.ensures ∙ c.if-what-eq7.true))
-
-pub returns-then-what-eq7 : goal.returns-then-what-eq7
-unfolding first_column
-returns-then-what-eq7 c = rw (eq-eqb _ _ (sym c.a_use-what.ensures ∙ c.if-what-eq7.true)) c.row_at.ensures
+row_at-requires c = omega (arith, c.requires.usable.a_proposition (sym c.a_use.ensures ∙ c.in-7.is))
 
 pub column_at-requires : goal.column_at-requires
-column_at-requires c = omega (arith, c.requires.usable.a_signal_holds (sym c.a_use-what.ensures ∙ c.if-what-eq1.true))
-
-pub returns-then-what-eq1 : goal.returns-then-what-eq1
-unfolding first_column
-returns-then-what-eq1 c = rw ((ne_eqb _ _ (λ e. c.if-what-eq7.false (c.a_use-what.ensures ∙ e))), eq-eqb _ _ (sym c.a_use-what.ensures ∙ c.if-what-eq1.true)) c.column_at.ensures
+column_at-requires c = omega (arith, c.requires.usable.a_signal_holds (sym c.a_use.ensures ∙ c.in-1.is))
 
 pub name_column-requires : goal.name_column-requires
-name_column-requires c = omega (arith, c.requires.usable.a_name_holds (sym c.a_use-what.ensures ∙ c.if-what-eq2.true))
+name_column-requires c = omega (arith, c.requires.usable.a_name_holds (sym c.a_use.ensures ∙ c.in-2.is))
 
-pub returns-then-what-eq2 : goal.returns-then-what-eq2
+pub returns-in-7 : goal.returns-in-7
 unfolding first_column
-returns-then-what-eq2 c = rw ((ne_eqb _ _ (λ e. c.if-what-eq7.false (c.a_use-what.ensures ∙ e))), (ne_eqb _ _ (λ e. c.if-what-eq1.false (c.a_use-what.ensures ∙ e))), eq-eqb _ _ (sym c.a_use-what.ensures ∙ c.if-what-eq2.true)) c.name_column.ensures
+returns-in-7 c = rw (sym c.a_use.ensures ∙ c.in-7.is) c.row_at.ensures
 
-pub name_column-requires-then-two-eq5 : goal.name_column-requires-then-two-eq5
-name_column-requires-then-two-eq5 c = omega (arith, c.requires.usable.first_name_holds (sym c.q_use-two.ensures ∙ c.if-two-eq5.true))
-
-pub returns-then-two-eq5 : goal.returns-then-two-eq5
+pub returns-in-1 : goal.returns-in-1
 unfolding first_column
-returns-then-two-eq5 c = rw ((ne_eqb _ _ (λ e. c.if-what-eq7.false (c.a_use-what.ensures ∙ e))), (ne_eqb _ _ (λ e. c.if-what-eq1.false (c.a_use-what.ensures ∙ e))), (ne_eqb _ _ (λ e. c.if-what-eq2.false (c.a_use-what.ensures ∙ e))), eq-eqb _ _ (sym c.q_use-two.ensures ∙ c.if-two-eq5.true)) c.name_column-then-two-eq5.ensures
+returns-in-1 c = rw (sym c.a_use.ensures ∙ c.in-1.is) c.column_at.ensures
 
-pub returns : goal.returns
+pub returns-in-2 : goal.returns-in-2
 unfolding first_column
-returns c = rw ((ne_eqb _ _ (λ e. c.if-what-eq7.false (c.a_use-what.ensures ∙ e))), (ne_eqb _ _ (λ e. c.if-what-eq1.false (c.a_use-what.ensures ∙ e))), (ne_eqb _ _ (λ e. c.if-what-eq2.false (c.a_use-what.ensures ∙ e))), ne_eqb _ _ (λ e. c.if-two-eq5.false (c.q_use-two.ensures ∙ e)))
+returns-in-2 c = rw (sym c.a_use.ensures ∙ c.in-2.is) c.name_column.ensures
+
+pub returns-then-q_use-eq5 : goal.returns-then-q_use-eq5
+unfolding first_column
+returns-then-q_use-eq5 c =
+    let what = a_use c.args.x.op in
+    let proposition : what ≡ 7 → ⊥ = omega arith in
+    let signal : what ≡ 1 → ⊥ = omega arith in
+    let name : what ≡ 2 → ⊥ = omega arith in
+    rw (ne_eqb what 7 proposition, ne_eqb what 1 signal, ne_eqb what 2 name, sym c.q_use.ensures ∙ c.if-q_use-eq5.true) c.name_column-then-q_use-eq5.ensures
+
+pub returns-else-q_use-eq5 : goal.returns-else-q_use-eq5
+unfolding first_column
+returns-else-q_use-eq5 c =
+    let op = c.args.x.op in
+    let what = a_use op in
+    let proposition : what ≡ 7 → ⊥ = omega arith in
+    let signal : what ≡ 1 → ⊥ = omega arith in
+    let name : what ≡ 2 → ⊥ = omega arith in
+    let two : q_use op ≡ 5 → ⊥ = omega arith in
+    rw (ne_eqb what 7 proposition, ne_eqb what 1 signal, ne_eqb what 2 name, ne_eqb (q_use op) 5 two) refl
