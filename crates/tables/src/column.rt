@@ -8,6 +8,7 @@ use crate::words::row_at;
 use rows::mask::below;
 use stored::Node;
 use stored::nodes::{Use, a_use, q_use};
+use stored::ops::{AND_P, FALSE, NAME, NOT_P, SIGNAL, TRUE};
 use traces::trace::FIRST_NAME;
 
 // Column k.
@@ -44,16 +45,15 @@ pub fn proposition(x: Node, before: usize, n: usize, columns: &[u64], words: &[u
     requires known_op { (1 ≤ x.op) × (x.op ≤ 7) × (n ≤ 64) × (length columns.now ≡ 19) × (64 * before ≤ length words.now) }
     ensures { result ≡ column_of (proposition_op x.op) x n columns.now words.now }
 {
-    let op = x.op;
     let a = x.a;
     let b = x.b;
-    match op {
-        1 => 0,
-        2 => below(n),
-        3 => column_at(columns, a),
-        4 => name_column(columns, a),
-        5 => below(n) & !row_at(words, a, 0),
-        6 => row_at(words, a, 0) & row_at(words, b, 0),
+    match x.op {
+        FALSE => 0,
+        TRUE => below(n),
+        SIGNAL => column_at(columns, a),
+        NAME => name_column(columns, a),
+        NOT_P => below(n) & !row_at(words, a, 0),
+        AND_P => row_at(words, a, 0) & row_at(words, b, 0),
         _ => row_at(words, a, 0) | row_at(words, b, 0),
     }
 }

@@ -10,41 +10,37 @@ use rows::gap::gap;
 use rows::shape::Symbol;
 use rows::{count, shape};
 use stored::Node;
-use stored::ops::AND;
+use stored::ops::{
+    AND, AT_LEAST, AT_MOST, BELOW, CHOP, EQUAL, MARK, POINT, SCOUNT, SLEN, STRETCH, SYMBOL, WHOLE,
+};
 
-// A comparison's number: 0 <, 1 ≤, 2 =, 3 ≥, 4 >.
+// A comparison by its number. Rule 6 keeps these below 5, so there is no other for a `TryFrom` to refuse; so of symbols.
 fn comparison(q: usize) -> Comparison
     requires { q < 5 }
     ensures { symbols.comparison_of result ≡ comparison_of q }
 {
     match q {
-        0 => Comparison::Below,
-        1 => Comparison::AtMost,
-        2 => Comparison::Equal,
-        3 => Comparison::AtLeast,
+        BELOW => Comparison::Below,
+        AT_MOST => Comparison::AtMost,
+        EQUAL => Comparison::Equal,
+        AT_LEAST => Comparison::AtLeast,
         _ => Comparison::Above,
     }
 }
 
-// A symbol's number.
+// A symbol by its number in document 01.
 fn symbol(q: usize) -> Symbol
     requires { q < 8 }
     ensures { symbols.symbol_of result ≡ symbol_of q }
 {
-    if q < 4 {
-        match q {
-            0 => Symbol::Low,
-            1 => Symbol::High,
-            2 => Symbol::Either,
-            _ => Symbol::Either,
-        }
-    } else {
-        match q {
-            4 => Symbol::LowStretch,
-            5 => Symbol::HighStretch,
-            6 => Symbol::EitherStretch,
-            _ => Symbol::Steady,
-        }
+    match q {
+        0 => Symbol::Low,
+        1 => Symbol::High,
+        2 | 3 => Symbol::Either,
+        4 => Symbol::LowStretch,
+        5 => Symbol::HighStretch,
+        6 => Symbol::EitherStretch,
+        _ => Symbol::Steady,
     }
 }
 
@@ -53,11 +49,10 @@ fn shape_row(x: Node, n: usize, first: u64, second: u64, words: &[u64], own: usi
     requires { (16 ≤ x.op) × (x.op < 20) × (b < n) × (n ≤ 64) }
     ensures { result ≡ row_of (formula_op x.op) x n first second words.now own b }
 {
-    let op = x.op;
-    match op {
-        16 => shape::point(first, b, n),
-        17 => shape::stretch(first, b, n),
-        18 => shape::whole(first, b, n),
+    match x.op {
+        POINT => shape::point(first, b, n),
+        STRETCH => shape::stretch(first, b, n),
+        WHOLE => shape::whole(first, b, n),
         _ => shape::unit(first, b, n),
     }
 }
@@ -68,12 +63,11 @@ fn count_row(x: Node, n: usize, first: u64, second: u64, words: &[u64], own: usi
     requires known_op { (24 ≤ x.op) × (x.op < 27) × (b < n) × (n ≤ 64) }
     ensures { result ≡ row_of (formula_op x.op) x n first second words.now own b }
 {
-    let op = x.op;
     let number = x.b;
     let compared = comparison(x.q);
-    match op {
-        24 => count::slen(compared, number, b, n),
-        25 => count::scount(compared, first, number, b, n),
+    match x.op {
+        SLEN => count::slen(compared, number, b, n),
+        SCOUNT => count::scount(compared, first, number, b, n),
         _ => count::sdur(compared, first, number, b, n),
     }
 }
@@ -84,10 +78,9 @@ pub fn and_or_row(x: Node, n: usize, words: &[u64], own: usize, b: usize) -> u64
     requires known_op { (21 ≤ x.op) × (x.op < 23) × (b < n) × (n ≤ 64) × (64 * own ≤ length words.now) }
     ensures { result ≡ row_of (formula_op x.op) x n 0 0 words.now own b }
 {
-    let op = x.op;
     let left = row_at(words, x.a, b);
     let right = row_at(words, x.b, b);
-    if op == AND {
+    if x.op == AND {
         left & right
     } else {
         left | right
@@ -108,13 +101,10 @@ pub fn drawing_row(
     requires known_op { (27 ≤ x.op) × (x.op < 30) × (b < n) × (n ≤ 64) }
     ensures { result ≡ row_of (formula_op x.op) x n first second words.now own b }
 {
-    let op = x.op;
-    let fewest = x.a;
-    let most = x.b;
-    match op {
-        27 => shape::drawn(symbol(x.q), first, b, n),
-        28 => shape::marked(first, b, n),
-        _ => gap(first, second, fewest, most, b, n),
+    match x.op {
+        SYMBOL => shape::drawn(symbol(x.q), first, b, n),
+        MARK => shape::marked(first, b, n),
+        _ => gap(first, second, x.a, x.b, b, n),
     }
 }
 
@@ -132,8 +122,7 @@ pub fn plain_row(
     requires known_op { (16 ≤ x.op) × (x.op < 27) × (is_pair x.op ≡ false) × (x.op ≡ 23 → ⊥) × (b < n) × (n ≤ 64) }
     ensures { result ≡ row_of (formula_op x.op) x n first second words.now own b }
 {
-    let op = x.op;
-    if op < 20 {
+    if x.op < CHOP {
         shape_row(x, n, first, second, words, own, b)
     } else {
         count_row(x, n, first, second, words, own, b)

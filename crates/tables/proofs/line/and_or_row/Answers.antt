@@ -19,16 +19,16 @@ row_at-right-requires c =
     let op = c.args.x.op in
     omega (arith, q.usable.b_formula (pair_right op (pair_of op (omega (arith, q.known_op.0)) (omega (arith, q.known_op.1)))), q.known_op.2, q.known_op.3, q.known_op.4)
 
-pub returns-then-op-eq-AND : goal.returns-then-op-eq-AND
+pub returns-then-x-eq-AND : goal.returns-then-x-eq-AND
 unfolding formula_op row_of
-returns-then-op-eq-AND c =
+returns-then-x-eq-AND c =
     let a = c.args in
-    row_told a.x 21 a.n 0 0 a.words.now a.own a.b _ c.if-op-eq-AND.true (ap₂ bit_and c.row_at-left.ensures c.row_at-right.ensures)
+    row_told a.x 21 a.n 0 0 a.words.now a.own a.b _ c.if-x-eq-AND.true (ap₂ bit_and c.row_at-left.ensures c.row_at-right.ensures)
 
-pub returns-else-op-eq-AND : goal.returns-else-op-eq-AND
+pub returns-else-x-eq-AND : goal.returns-else-x-eq-AND
 unfolding formula_op row_of
-returns-else-op-eq-AND c =
+returns-else-x-eq-AND c =
     let a = c.args in
     let q = c.requires in
-    let at : a.x.op ≡ 22 = omega (arith, q.known_op.0, q.known_op.1, c.if-op-eq-AND.false) in
+    let at : a.x.op ≡ 22 = omega (arith, q.known_op.0, q.known_op.1, c.if-x-eq-AND.false) in
     row_told a.x 22 a.n 0 0 a.words.now a.own a.b _ at (ap₂ bit_or c.row_at-left.ensures c.row_at-right.ensures)

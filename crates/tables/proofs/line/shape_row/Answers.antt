@@ -31,5 +31,5 @@ pub returns-in_default : goal.returns-in_default
 unfolding formula_op row_of
 returns-in_default c =
     let a = c.args in
-    let at : a.x.op ≡ 19 = omega (arith, c.in_default.in_default-own.rest) in
+    let at : a.x.op ≡ 19 = omega arith in
     row_told a.x 19 a.n a.first a.second a.words.now a.own a.b _ at c.unit.ensures

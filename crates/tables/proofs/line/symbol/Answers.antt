@@ -1,6 +1,10 @@
 -- `tables::line::symbol` meets its contract.
 use mathlib.Core.Path.{◌≡◌, sym, ap}
 use native.Mathlib.Omega.{arith}
+use mathlib.Core.Logic.{inl, inr}
+use borrow.Author.Tests.{eqb-true, eqb-false}
+use lib.Dec.{eqb}
+use Rattle.semantics.proofs.Tests.{test}
 use Rattle.stored.specs.Tree.{symbol_of}
 use Rattle.tables.proofs.line.symbol.Goals as goal
 
@@ -19,14 +23,10 @@ returns-in-1 c =
 pub returns-in-2 : goal.returns-in-2
 unfolding symbol_of
 returns-in-2 c =
-    let at : c.args.q ≡ 2 = c.in-2.is in
-    sym (ap symbol_of at)
-
-pub returns-in_default : goal.returns-in_default
-unfolding symbol_of
-returns-in_default c =
-    let at : c.args.q ≡ 3 = omega (arith, c.in_default.in_default-own.rest) in
-    sym (ap symbol_of at)
+    elim (test (eqb c.args.q 2)) [
+      | inl s ↦ sym (ap symbol_of (eqb-true c.args.q 2 s))
+      | inr s ↦ (let other = eqb-false c.args.q 2 s in let at : c.args.q ≡ 3 = omega arith in sym (ap symbol_of at))
+    ]
 
 pub returns-in-4 : goal.returns-in-4
 unfolding symbol_of
@@ -46,8 +46,8 @@ returns-in-6 c =
     let at : c.args.q ≡ 6 = c.in-6.is in
     sym (ap symbol_of at)
 
-pub returns-in_default-q : goal.returns-in_default-q
+pub returns-in_default : goal.returns-in_default
 unfolding symbol_of
-returns-in_default-q c =
-    let at : c.args.q ≡ 7 = omega (arith, c.in_default-q.in_default-q-own.rest) in
+returns-in_default c =
+    let at : c.args.q ≡ 7 = omega arith in
     sym (ap symbol_of at)
