@@ -1,10 +1,11 @@
 // Marks the nodes that the root of a drafted formula reaches.
 ghost use Rattle.std.specs.Prelude.{true, false, ◌≡◌, ℕ, ◌+◌, ◌≤◌, ◌<◌, length, get_or};
 ghost use Rattle.stored.specs.Layout.{nodes_end};
-ghost use Rattle.stored.specs.Node.{is_operand, emitted_sorts, operands_right};
+ghost use Rattle.stored.specs.Node.{emitted_sorts, operands_right};
 ghost use Rattle.stored.specs.Written.{node_in};
 ghost use Rattle.pruning.specs.Pruned.{marked, marked_node, MarkedFrom};
 
+use emission::copy::is_operand;
 use stored::{Node, layout, nodes};
 
 // Node i of a draft.
@@ -14,14 +15,6 @@ pub fn node_in(draft: &[u8], i: usize) -> Node
     ensures { result ≡ node_in draft.now i }
 {
     nodes::node_at(&draft[layout::NODES_START..], i)
-}
-
-// Whether a field used so is the number of a node.
-#[tactic(auto, unfolding(stored::specs::Node::is_operand))]
-fn is_operand(what: usize) -> bool
-    ensures { result ≡ is_operand what }
-{
-    (what == 7) | (what == 8)
 }
 
 // Field v of a node, used so: the node that it is, if it is one.
