@@ -1,5 +1,5 @@
 -- "The clause is broken": what the plan of each type tells, by at most 10 nodes and 3 a name.
-use Prim.Native.Nat.{ℕ, zero, suc, ◌+◌, ◌*◌, ◌≤◌}
+use Prim.Native.Nat.{ℕ, ◌+◌, ◌*◌, ◌≤◌}
 use mathlib.Core.Bool.{true}
 use mathlib.Core.List.{List}
 use mathlib.Core.Path.{◌≡◌, refl}
@@ -7,7 +7,6 @@ use native.Mathlib.Omega.{arith}
 use lib.Dec.{ltb}
 use Rattle.semantics.specs.Formula.{Formula}
 use Rattle.semantics.specs.Placement.{Names, union, without}
-use Rattle.semantics.specs.Clause.{pref}
 use Rattle.semantics.specs.Translation.{shortest_of, unanswered_of, broken_of}
 use Rattle.stored.specs.Clause.{parts_used, type_of}
 use Rattle.stored.specs.Sheet.{header_of}
@@ -15,18 +14,6 @@ use Rattle.stored.proofs.Accepted.{type_cases}
 use Rattle.plans.specs.Emission.{Ready}
 use Rattle.plans.proofs.Plans.{Tells, tells_within, everywhere_told, longer_told, chop_told, and_told, not_told}
 use Rattle.clauses.proofs.Names.{Inside, union_inside, without_inside, many, many_both, many_most, marks_told, placed_told}
-
--- a number that is no type's stands for type 1
-pub pref_is : (k : ℕ) → (k ≡ 2 → ⊥) → (k ≡ 3 → ⊥) → (k ≡ 4 → ⊥) → (k ≡ 5 → ⊥) → (k ≡ 6 → ⊥) → type_of k ≡ pref
-unfolding type_of
-pref_is zero h₂ h₃ h₄ h₅ h₆ = refl
-pref_is (suc zero) h₂ h₃ h₄ h₅ h₆ = refl
-pref_is (suc (suc zero)) h₂ h₃ h₄ h₅ h₆ = absurd (h₂ refl)
-pref_is (suc (suc (suc zero))) h₂ h₃ h₄ h₅ h₆ = absurd (h₃ refl)
-pref_is (suc (suc (suc (suc zero)))) h₂ h₃ h₄ h₅ h₆ = absurd (h₄ refl)
-pref_is (suc (suc (suc (suc (suc zero))))) h₂ h₃ h₄ h₅ h₆ = absurd (h₅ refl)
-pref_is (suc (suc (suc (suc (suc (suc zero)))))) h₂ h₃ h₄ h₅ h₆ = absurd (h₆ refl)
-pref_is (suc (suc (suc (suc (suc (suc (suc k))))))) h₂ h₃ h₄ h₅ h₆ = refl
 
 module _ {y : List ℕ} (ready : Ready y) (p₁ p₂ p₃ f₁ f₂ f₃ : Formula) (Θ₁ Θ₂ Θ₃ : Names)
     (in₁ : Inside (header_of y).names Θ₁) (in₂ : Inside (header_of y).names Θ₂) (in₃ : Inside (header_of y).names Θ₃) where

@@ -15,7 +15,8 @@ use Rattle.semantics.specs.Translation.{once_name, once, placed_name, placed}
 use Rattle.semantics.proofs.Tests.{test, and_left}
 use Rattle.stored.specs.Sheet.{header_of}
 use Rattle.plans.specs.Emission.{Ready}
-use Rattle.plans.specs.Plan.{Wrote, there, marked, conjoined, columned}
+use Rattle.plans.specs.Plan.{node, op_and, op_some, Put, Wrote, there, marked, conjoined, columned}
+use Rattle.clauses.specs.Clauses.{names_over}
 use Rattle.plans.proofs.Plans.{Tells, tells_within, once_told, and_told, some_told}
 
 -- ---- sets of names, and how many names they have
@@ -103,16 +104,6 @@ unfolding placed₁
 name_over u false o z r w = o z r w
 name_over u true o z r (columned (conjoined marked w put) put') = columned (conjoined marked (o _ _ w) put) put'
 
-pub mark_over_node : {x y z : List ℕ} {a r : ℕ} {f : Formula} (u : ℕ) (names : Names) → Wrote x y a f
-    → Wrote y z r (once_name u names (at a)) → Wrote x z r (once_name u names f)
-unfolding once_name once₁
-mark_over_node u names w v = mark_over u (names u) (node_over w) _ _ v
-
-pub name_over_node : {x y z : List ℕ} {a r : ℕ} {f : Formula} (u : ℕ) (names : Names) → Wrote x y a f
-    → Wrote y z r (placed_name u names (at a)) → Wrote x z r (placed_name u names f)
-unfolding placed_name placed₁
-name_over_node u names w v = name_over u (names u) (node_over w) _ _ v
-
 pub once_over : {x y z : List ℕ} {a r : ℕ} {f : Formula} (names : Names) → Wrote x y a f
     → Wrote y z r (once names (at a)) → Wrote x z r (once names f)
 unfolding once once_name once₁
@@ -122,6 +113,50 @@ pub placed_over : {x y z : List ℕ} {a r : ℕ} {f : Formula} (names : Names) �
     → Wrote y z r (placed names (at a)) → Wrote x z r (placed names f)
 unfolding placed placed_name placed₁
 placed_over names w v = name_over 0 (names 0) (name_over 1 (names 1) (name_over 2 (names 2) (node_over w))) _ _ v
+
+-- ---- as they are written, the last name first
+-- name u, in a column of its own or not
+abbrev one_over : Bool → ℕ → Names → Formula → Formula
+one_over own u names f = cond own (placed_name u names f) (once_name u names f)
+
+-- the names from u on
+abbrev pub names_from : Bool → ℕ → Names → Formula → Formula
+names_from own zero names f = names_over own names f
+names_from own (suc zero) names f = one_over own 1 names (one_over own 2 names f)
+names_from own (suc (suc zero)) names f = one_over own 2 names f
+names_from own (suc (suc (suc u))) names f = f
+
+names_next : (own : Bool) (u : ℕ) (names : Names) (f : Formula) → u < 3 → names_from own u names f ≡ one_over own u names (names_from own (u + 1) names f)
+unfolding once placed
+names_next true zero names f h = refl
+names_next false zero names f h = refl
+names_next own (suc zero) names f h = refl
+names_next own (suc (suc zero)) names f h = refl
+names_next own (suc (suc (suc u))) names f h = absurd (omega arith)
+
+pub names_all : {x y : List ℕ} {a : ℕ} (own : Bool) (u : ℕ) (names : Names) (f : Formula) → u ≤ 0
+    → Wrote x y a (names_from own u names f) → Wrote x y a (names_over own names f)
+names_all own zero names f h w = w
+names_all own (suc u) names f h w = absurd (omega arith)
+
+-- name u after those from v on, which is the next
+module _ {x y : List ℕ} {a : ℕ} (u v : ℕ) (names : Names) (f : Formula) (next : v ≡ u + 1) (few : v ≤ 3) where
+  pub name_passed : (own : Bool) → names u ≡ false → Wrote x y a (names_from own v names f) → Wrote x y a (names_from own u names f)
+  unfolding once_name placed_name
+  name_passed true e w = rw (names_next true u names f (omega arith), e, sym next) w
+  name_passed false e w = rw (names_next false u names f (omega arith), e, sym next) w
+
+  pub name_marked : {z : List ℕ} {r : ℕ} (own : Bool) → own ≡ false → names u ≡ true → Wrote x y a (names_from own v names f)
+      → Put (node op_and 0 (4 + 2 * u) a) y z r → Wrote x z r (names_from own u names f)
+  unfolding once_name
+  name_marked true o e w put = absurd (true≢false o)
+  name_marked false o e w put = rw (names_next false u names f (omega arith), e, sym next) (conjoined marked w put)
+
+  pub name_placed : {z z' : List ℕ} {b r : ℕ} (own : Bool) → own ≡ true → names u ≡ true → Wrote x y a (names_from own v names f)
+      → Put (node op_and 0 (4 + 2 * u) a) y z b → Put (node op_some 0 b u) z z' r → Wrote x z' r (names_from own u names f)
+  unfolding placed_name
+  name_placed true o e w put put' = rw (names_next true u names f (omega arith), e, sym next) (columned (conjoined marked w put) put')
+  name_placed false o e w put put' = absurd (true≢false (sym o))
 
 -- ---- what they tell: a node for a name's one mark, and one for its column
 module _ {y : List ℕ} (ready : Ready y) where

@@ -1,9 +1,10 @@
 -- The clauses as formulas over the copied nodes, and how many nodes they take.
-use Rattle.std.specs.Prelude.{ℕ, ◌+◌, ◌*◌, ◌≤◌, ◌<◌, true, List, ◌≡◌, length, get_or, set}
+use Rattle.std.specs.Prelude.{ℕ, ◌+◌, ◌*◌, ◌≤◌, ◌<◌, Bool, true, cond, List, ◌≡◌, length, get_or, set}
 use Rattle.semantics.specs.Proposition.{bit}
 use Rattle.semantics.specs.Formula.{Formula, at}
-use Rattle.semantics.specs.Clause.{Clause}
-use Rattle.semantics.specs.Translation.{broken_of}
+use Rattle.semantics.specs.Clause.{ClauseType, Clause}
+use Rattle.semantics.specs.Placement.{Names}
+use Rattle.semantics.specs.Translation.{once, placed, broken_of}
 use Rattle.stored.specs.declared.StoredClause.{StoredClause}
 use Rattle.stored.specs.Bytes.{in_order}
 use Rattle.stored.specs.Layout.{clause_size, most_clauses}
@@ -13,6 +14,7 @@ use Rattle.stored.specs.Clause.{stored_at, clause_right, clause_named, type_of, 
 use Rattle.stored.specs.Sheet.{header_of}
 use Rattle.plans.specs.Plan.{node, op_or, Put, Wrote}
 use Rattle.emission.specs.Copying.{copy_costs}
+use Rattle.clauses.specs.declared.placing.Part.{Part}
 
 -- the clauses of a sheet that rules 8 and 9 take
 pub record ClausesIn (y : List ℕ) (nodes : List ℕ) (n : ℕ) (clauses : List ℕ) (c : ℕ) : Type 0 where
@@ -25,7 +27,16 @@ pub record ClausesIn (y : List ℕ) (nodes : List ℕ) (n : ℕ) (clauses : List
 abbrev pub side_count : ℕ
 side_count = 2
 
--- the plan of a clause, over the copies: "it is broken"
+-- each name of the set has one mark, in a column of its own or not, and f holds
+abbrev pub names_over : Bool → Names → Formula → Formula
+names_over own names f = cond own (placed names f) (once names f)
+
+-- the plan of a clause whose parts are nodes with the masks of their names: "it is broken"
+abbrev pub broken_over : ClauseType → Part → Part → Part → Formula
+broken_over type d₁ d₂ d₃ =
+    broken_of type (at d₁.node) (bit d₁.names) (at d₂.node) (bit d₂.names) (at d₃.node) (bit d₃.names)
+
+-- the plan of a stored clause, over the copies
 unfoldable pub broken_in : List ℕ → StoredClause → Formula
 broken_in map d =
     broken_of (type_of d.clause_type)

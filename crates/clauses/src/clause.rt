@@ -1,147 +1,156 @@
-// "The clause is broken", by its type: parts D1, D2, D3 as formula nodes f1, f2, f3, with the masks m1, m2, m3 of their names. Each
-// function writes its formula in order, operands first.
+// "The clause is broken", by its type, over the parts D1, D2 and D3. Each function writes its formula in order, operands first.
 ghost use Rattle.semantics.specs.Proposition.{bit};
 ghost use Rattle.semantics.specs.Formula.{at};
 ghost use Rattle.semantics.specs.Clause.{pref, init, anti, implies, follows, triggers};
-ghost use Rattle.semantics.specs.Translation.{shortest_of, unanswered_of, broken_of};
+ghost use Rattle.semantics.specs.Translation.{shortest_of, unanswered_of};
 ghost use Rattle.stored.specs.Clause.{type_of};
 ghost use Rattle.plans.specs.Plan.{Wrote};
+ghost use Rattle.clauses.specs.Clauses.{broken_over};
 
-use crate::placing;
-use emission::shared;
-use plans::node;
+use crate::placing::{Part, besides, both, put_once, put_placed};
+use emission::shared::{ANYWHERE, EXTENDED};
+use plans::node::{Op, put};
 
-fn put_pref(out: &mut [u8], f1: usize, m1: usize) -> usize
-    ensures { Wrote out.old out.new result (broken_of pref (at f1) (bit m1) (at f1) (bit m1) (at f1) (bit m1)) }
+// The types of clauses by document 01's numbers.
+const INIT: usize = 2;
+
+const ANTI: usize = 3;
+
+const IMPLIES: usize = 4;
+
+const FOLLOWS: usize = 5;
+
+const TRIGGERS: usize = 6;
+
+fn put_pref(out: &mut [u8], d1: Part) -> usize
+    ensures { Wrote out.old out.new result (broken_over pref d1 d1 d1) }
 {
-    let held = placing::put_placed(out, m1, f1);
-    let missed = node::put_not(out, held);
-    node::put_chop(out, missed, shared::ANYWHERE)
+    let held = put_placed(out, d1);
+    let missed = put(out, Op::Not(held));
+    put(out, Op::Chop(missed, ANYWHERE))
 }
 
-fn put_init(out: &mut [u8], f1: usize, m1: usize, f2: usize, m2: usize) -> usize
-    ensures { Wrote out.old out.new result (broken_of init (at f1) (bit m1) (at f2) (bit m2) (at f1) (bit m1)) }
+fn put_init(out: &mut [u8], d1: Part, d2: Part) -> usize
+    ensures { Wrote out.old out.new result (broken_over init d1 d2 d1) }
 {
-    let rest = placing::besides(m1, m2);
-    let given = placing::put_placed(out, rest, f1);
-    let somewhere = node::put_chop(out, given, shared::ANYWHERE);
-    let missed = node::put_not(out, somewhere);
-    let unanswered = node::put_and(out, f2, missed);
-    let placed = placing::put_placed(out, m2, unanswered);
-    node::put_chop(out, placed, shared::ANYWHERE)
+    let rest = besides(d1.names, d2.names);
+    let given = put_placed(out, Part { names: rest, ..d1 });
+    let somewhere = put(out, Op::Chop(given, ANYWHERE));
+    let missed = put(out, Op::Not(somewhere));
+    let unanswered = put(out, Op::And(d2.node, missed));
+    let placed = put_placed(
+        out,
+        Part {
+            node: unanswered,
+            ..d2
+        },
+    );
+    put(out, Op::Chop(placed, ANYWHERE))
 }
 
-fn put_anti(out: &mut [u8], f1: usize, m1: usize) -> usize
-    ensures { Wrote out.old out.new result (broken_of anti (at f1) (bit m1) (at f1) (bit m1) (at f1) (bit m1)) }
+fn put_anti(out: &mut [u8], d1: Part) -> usize
+    ensures { Wrote out.old out.new result (broken_over anti d1 d1 d1) }
 {
-    let given = placing::put_placed(out, m1, f1);
-    let started = node::put_chop(out, given, shared::ANYWHERE);
-    node::put_chop(out, shared::ANYWHERE, started)
+    let given = put_placed(out, d1);
+    let started = put(out, Op::Chop(given, ANYWHERE));
+    put(out, Op::Chop(ANYWHERE, started))
 }
 
-fn put_implies(out: &mut [u8], f1: usize, m1: usize, f2: usize, m2: usize) -> usize
-    ensures { Wrote out.old out.new result (broken_of implies (at f1) (bit m1) (at f2) (bit m2) (at f1) (bit m1)) }
+fn put_implies(out: &mut [u8], d1: Part, d2: Part) -> usize
+    ensures { Wrote out.old out.new result (broken_over implies d1 d2 d1) }
 {
-    let rest = placing::besides(m2, m1);
-    let given = placing::put_placed(out, rest, f2);
-    let missed = node::put_not(out, given);
-    let unanswered = node::put_and(out, f1, missed);
-    let placed = placing::put_placed(out, m1, unanswered);
-    let started = node::put_chop(out, placed, shared::ANYWHERE);
-    node::put_chop(out, shared::ANYWHERE, started)
+    let rest = besides(d2.names, d1.names);
+    let given = put_placed(out, Part { names: rest, ..d2 });
+    let missed = put(out, Op::Not(given));
+    let unanswered = put(out, Op::And(d1.node, missed));
+    let placed = put_placed(
+        out,
+        Part {
+            node: unanswered,
+            ..d1
+        },
+    );
+    let started = put(out, Op::Chop(placed, ANYWHERE));
+    put(out, Op::Chop(ANYWHERE, started))
 }
 
 // f, and on no shorter interval with the same beginning.
 fn put_shortest(out: &mut [u8], f: usize) -> usize
     ensures { Wrote out.old out.new result (shortest_of (at f)) }
 {
-    let longer = node::put_chop(out, f, shared::EXTENDED);
-    let not_longer = node::put_not(out, longer);
-    node::put_and(out, f, not_longer)
+    let longer = put(out, Op::Chop(f, EXTENDED));
+    let not_longer = put(out, Op::Not(longer));
+    put(out, Op::And(f, not_longer))
 }
 
 // D3 is Ξ, with the names inside that D1 lacks, and D2 on no interval with the same beginning up to there.
-fn put_unanswered(out: &mut [u8], m1: usize, f2: usize, m2: usize, f3: usize, m3: usize) -> usize
-    ensures { Wrote out.old out.new result (unanswered_of (bit m1) (at f2) (bit m2) (at f3) (bit m3)) }
+fn put_unanswered(out: &mut [u8], names1: usize, d2: Part, d3: Part) -> usize
+    ensures { Wrote out.old out.new result (unanswered_of (bit names1) (at d2.node) (bit d2.names) (at d3.node) (bit d3.names)) }
 {
-    let added = placing::besides(m3, m1);
-    let rest = placing::besides(m2, placing::both(m1, m3));
-    let shortest = put_shortest(out, f3);
-    let ended = placing::put_once(out, added, shortest);
-    let given = placing::put_placed(out, rest, f2);
-    let somewhere = node::put_chop(out, given, shared::ANYWHERE);
-    let missed = node::put_not(out, somewhere);
-    node::put_and(out, ended, missed)
+    let added = besides(d3.names, names1);
+    let rest = besides(d2.names, both(names1, d3.names));
+    let shortest = put_shortest(out, d3.node);
+    let ended = put_once(
+        out,
+        Part {
+            node: shortest,
+            names: added,
+        },
+    );
+    let given = put_placed(out, Part { names: rest, ..d2 });
+    let somewhere = put(out, Op::Chop(given, ANYWHERE));
+    let missed = put(out, Op::Not(somewhere));
+    put(out, Op::And(ended, missed))
 }
 
-fn put_follows(
-    out: &mut [u8],
-    f1: usize,
-    m1: usize,
-    f2: usize,
-    m2: usize,
-    f3: usize,
-    m3: usize,
-) -> usize
-    ensures { Wrote out.old out.new result (broken_of follows (at f1) (bit m1) (at f2) (bit m2) (at f3) (bit m3)) }
+fn put_follows(out: &mut [u8], d1: Part, d2: Part, d3: Part) -> usize
+    ensures { Wrote out.old out.new result (broken_over follows d1 d2 d3) }
 {
-    let names = placing::both(m1, m3);
-    let first = placing::put_once(out, m1, f1);
-    let unanswered = put_unanswered(out, m1, f2, m2, f3, m3);
-    let rest = node::put_chop(out, unanswered, shared::ANYWHERE);
-    let joined = node::put_chop(out, first, rest);
-    let placed = placing::put_placed(out, names, joined);
-    node::put_chop(out, shared::ANYWHERE, placed)
+    let names = both(d1.names, d3.names);
+    let first = put_once(out, d1);
+    let unanswered = put_unanswered(out, d1.names, d2, d3);
+    let rest = put(out, Op::Chop(unanswered, ANYWHERE));
+    let joined = put(out, Op::Chop(first, rest));
+    let placed = put_placed(
+        out,
+        Part {
+            node: joined,
+            names,
+        },
+    );
+    put(out, Op::Chop(ANYWHERE, placed))
 }
 
-fn put_triggers(
-    out: &mut [u8],
-    f1: usize,
-    m1: usize,
-    f2: usize,
-    m2: usize,
-    f3: usize,
-    m3: usize,
-) -> usize
-    ensures { Wrote out.old out.new result (broken_of triggers (at f1) (bit m1) (at f2) (bit m2) (at f3) (bit m3)) }
+fn put_triggers(out: &mut [u8], d1: Part, d2: Part, d3: Part) -> usize
+    ensures { Wrote out.old out.new result (broken_over triggers d1 d2 d3) }
 {
-    let names = placing::both(m1, m3);
-    let once = placing::put_once(out, m1, f1);
-    let first = node::put_chop(out, once, shared::ANYWHERE);
-    let unanswered = put_unanswered(out, m1, f2, m2, f3, m3);
-    let rest = node::put_chop(out, unanswered, shared::ANYWHERE);
-    let joined = node::put_and(out, first, rest);
-    let placed = placing::put_placed(out, names, joined);
-    node::put_chop(out, shared::ANYWHERE, placed)
+    let names = both(d1.names, d3.names);
+    let once = put_once(out, d1);
+    let first = put(out, Op::Chop(once, ANYWHERE));
+    let unanswered = put_unanswered(out, d1.names, d2, d3);
+    let rest = put(out, Op::Chop(unanswered, ANYWHERE));
+    let joined = put(out, Op::And(first, rest));
+    let placed = put_placed(
+        out,
+        Part {
+            node: joined,
+            names,
+        },
+    );
+    put(out, Op::Chop(ANYWHERE, placed))
 }
 
-// By the type's number.
-pub fn put_typed(
-    out: &mut [u8],
-    clause_type: usize,
-    f1: usize,
-    m1: usize,
-    f2: usize,
-    m2: usize,
-    f3: usize,
-    m3: usize,
-) -> usize
-    ensures { Wrote out.old out.new result (broken_of (type_of clause_type) (at f1) (bit m1) (at f2) (bit m2) (at f3) (bit m3)) }
+// By the type's number, as document 01 stores it: the enum of types is the check's, which the translator doesn't use.
+#[tactic(auto, unfolding(stored::specs::Clause::type_of, semantics::specs::Translation::broken_of))]
+pub fn put_typed(out: &mut [u8], clause_type: usize, d1: Part, d2: Part, d3: Part) -> usize
+    ensures { Wrote out.old out.new result (broken_over (type_of clause_type) d1 d2 d3) }
 {
-    if clause_type == 2 {
-        return put_init(out, f1, m1, f2, m2);
+    match clause_type {
+        INIT => put_init(out, d1, d2),
+        ANTI => put_anti(out, d1),
+        IMPLIES => put_implies(out, d1, d2),
+        FOLLOWS => put_follows(out, d1, d2, d3),
+        TRIGGERS => put_triggers(out, d1, d2, d3),
+        _ => put_pref(out, d1),
     }
-    if clause_type == 3 {
-        return put_anti(out, f1, m1);
-    }
-    if clause_type == 4 {
-        return put_implies(out, f1, m1, f2, m2);
-    }
-    if clause_type == 5 {
-        return put_follows(out, f1, m1, f2, m2, f3, m3);
-    }
-    if clause_type == 6 {
-        return put_triggers(out, f1, m1, f2, m2, f3, m3);
-    }
-    put_pref(out, f1, m1)
 }

@@ -1,13 +1,22 @@
 // Names placed over a formula.
-ghost use Rattle.std.specs.Prelude.{◌≡◌, ◌<◌};
+ghost use Rattle.std.specs.Prelude.{◌≡◌};
 ghost use Rattle.semantics.specs.Proposition.{bit};
 ghost use Rattle.semantics.specs.Formula.{at};
 ghost use Rattle.semantics.specs.Placement.{union, without};
-ghost use Rattle.semantics.specs.Translation.{once_name, once, placed_name, placed};
+ghost use Rattle.semantics.specs.Translation.{once, placed};
 ghost use Rattle.plans.specs.Plan.{Wrote};
+ghost use Rattle.clauses.specs.Clauses.{names_over};
 
-use plans::node;
+use plans::node::{Op, put};
+use stored::layout::MOST_NAMES;
 use stored::masks::has_name;
+
+// A node with a mask of names: a part of a clause, or a formula over which names are to be placed.
+#[derive(Clone, Copy)]
+pub struct Part {
+    pub node: usize,
+    pub names: usize,
+}
 
 // Both sets of names.
 pub fn both(a: usize, b: usize) -> usize
@@ -23,43 +32,32 @@ pub fn besides(a: usize, b: usize) -> usize
     a & !b
 }
 
-// Name u of the names has one mark.
-fn put_mark(out: &mut [u8], u: usize, names: usize, f: usize) -> usize
-    requires { u < 3 }
-    ensures { Wrote out.old out.new result (once_name u (bit names) (at f)) }
+// Each of the names has one mark, which is in a column of its own where `own` says so.
+fn put_names(out: &mut [u8], part: Part, own: bool) -> usize
+    ensures { Wrote out.old out.new result (names_over own (bit part.names) (at part.node)) }
 {
-    if !has_name(names, u) {
-        return f;
+    let mut node = part.node;
+    for u in (0..MOST_NAMES).rev() {
+        if has_name(part.names, u) {
+            node = put(out, Op::And(4 + 2 * u, node));
+            if own {
+                node = put(out, Op::Column(u, node));
+            }
+        }
     }
-    node::put_and(out, 4 + 2 * u, f)
+    node
 }
 
 // Each of the names has one mark.
-pub fn put_once(out: &mut [u8], names: usize, f: usize) -> usize
-    ensures { Wrote out.old out.new result (once (bit names) (at f)) }
+pub fn put_once(out: &mut [u8], part: Part) -> usize
+    ensures { Wrote out.old out.new result (once (bit part.names) (at part.node)) }
 {
-    let third = put_mark(out, 2, names, f);
-    let second = put_mark(out, 1, names, third);
-    put_mark(out, 0, names, second)
-}
-
-// Name u of the names has one mark, in a column of its own.
-fn put_name(out: &mut [u8], u: usize, names: usize, f: usize) -> usize
-    requires { u < 3 }
-    ensures { Wrote out.old out.new result (placed_name u (bit names) (at f)) }
-{
-    if !has_name(names, u) {
-        return f;
-    }
-    let marked = node::put_and(out, 4 + 2 * u, f);
-    node::put_some(out, u, marked)
+    put_names(out, part, false)
 }
 
 // Each of the names has one mark, in a column of its own.
-pub fn put_placed(out: &mut [u8], names: usize, f: usize) -> usize
-    ensures { Wrote out.old out.new result (placed (bit names) (at f)) }
+pub fn put_placed(out: &mut [u8], part: Part) -> usize
+    ensures { Wrote out.old out.new result (placed (bit part.names) (at part.node)) }
 {
-    let third = put_name(out, 2, names, f);
-    let second = put_name(out, 1, names, third);
-    put_name(out, 0, names, second)
+    put_names(out, part, true)
 }

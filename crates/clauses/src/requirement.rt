@@ -1,6 +1,7 @@
 // The formula of a requirement: some assumption is broken, or no commitment is. Advice is not part of it.
 ghost use Rattle.std.specs.Prelude.{◌≡◌, ◌+◌, ◌≤◌, length};
 ghost use Rattle.semantics.specs.Translation.{translation};
+ghost use Rattle.stored.specs.Reach.{entry_of};
 ghost use Rattle.stored.specs.Sheet.{header_of};
 ghost use Rattle.plans.specs.Emission.{count, Emits, Ready};
 ghost use Rattle.plans.specs.Plan.{Wrote};
@@ -8,40 +9,45 @@ ghost use Rattle.emission.specs.Copying.{NodesIn};
 ghost use Rattle.clauses.specs.Clauses.{ClausesIn, side_count, broken_in, JoinedBy, clauses_at, requirement_cost};
 
 use crate::clause;
+use crate::placing::Part;
 use emission::{copy, shared};
-use plans::node;
+use plans::node::{Op, put};
 use stored::{StoredClause, clauses, masks};
 
 // The roles that the formula speaks of: assumption and commitment.
 const SIDES: usize = clauses::COMMITMENT + 1;
 
+// A part of a clause over the copies.
+fn copied_part(map: &[usize], root: usize, names: usize) -> Part
+    ensures { result ≡ record { node = entry_of map.now root; names = names } }
+{
+    Part {
+        node: masks::entry_of(map, root),
+        names,
+    }
+}
+
+#[tactic(auto, unfolding(crate::specs::Clauses::broken_in))]
 fn put_clause(out: &mut [u8], map: &[usize], d: StoredClause) -> usize
     ensures { Wrote out.old out.new result (broken_in map.now d) }
 {
-    let f1 = masks::entry_of(map, d.root1);
-    let f2 = masks::entry_of(map, d.root2);
-    let f3 = masks::entry_of(map, d.root3);
-    clause::put_typed(out, d.clause_type, f1, d.mask1, f2, d.mask2, f3, d.mask3)
+    let d1 = copied_part(map, d.root1, d.mask1);
+    let d2 = copied_part(map, d.root2, d.mask2);
+    let d3 = copied_part(map, d.root3, d.mask3);
+    clause::put_typed(out, d.clause_type, d1, d2, d3)
 }
 
 // The clause joined to the earlier ones on the side of its role; advice has no side and is passed over.
-fn join_clause(
-    out: &mut [u8],
-    map: &[usize],
-    d: StoredClause,
-    sides: [usize; SIDES],
-) -> [usize; SIDES]
-    requires { length sides ≡ side_count }
-    ensures { JoinedBy map.now d out.old out.new sides result }
+fn join_clause(out: &mut [u8], map: &[usize], d: StoredClause, sides: &mut [usize])
+    requires { length sides.old ≡ side_count }
+    ensures { JoinedBy map.now d out.old out.new sides.old sides.new }
 {
     let role = d.role;
     if SIDES <= role {
-        return sides;
+        return;
     }
     let broken = put_clause(out, map, d);
-    let mut joined = sides;
-    joined[role] = node::put_or(out, sides[role], broken);
-    joined
+    sides[role] = put(out, Op::Or(sides[role], broken));
 }
 
 // The node and clause parts of a sheet with n nodes and c clauses; the root is the last node.
@@ -52,10 +58,10 @@ pub fn put_requirement(out: &mut [u8], nodes: &[u8], n: usize, clauses: &[u8], c
     let map = copy::copy_nodes(out, nodes, n);
     let mut sides = [shared::NOTHING; SIDES];
     for k in 0..c {
-        sides = join_clause(out, &map, clauses::stored_at(clauses, k), sides);
+        join_clause(out, &map, clauses::stored_at(clauses, k), &mut sides);
     }
     let assumed = sides[clauses::ASSUMPTION];
     let committed = sides[clauses::COMMITMENT];
-    let kept = node::put_not(out, committed);
-    node::put_or(out, assumed, kept)
+    let kept = put(out, Op::Not(committed));
+    put(out, Op::Or(assumed, kept))
 }

@@ -3,6 +3,7 @@ use Prim.Native.Nat.{ℕ, suc, ◌+◌, ◌*◌, ◌/◌, ◌≤◌, ◌<◌}
 use mathlib.Core.Bool.{Bool, true, false, cond, ◌&&◌, ◌||◌, true≢false}
 use mathlib.Core.List.{List}
 use mathlib.Core.Logic.{inl, inr}
+use Rattle.std.specs.Prelude.{◌≢◌}
 use mathlib.Core.Path.{◌≡◌, refl, sym, ◌∙◌, ap, subst}
 use native.Mathlib.Omega.{arith}
 use borrow.Author.Tests.{leb-true, eqb-true, eqb-false, ne_eqb, ltb-true}
@@ -206,12 +207,9 @@ drawing_told {y} n ready fits drawing right =
     (λ q a. gap_told ready (ltb-true _ _ (and_left (ltb (n.q / 16) m) _ q)) (ltb-true _ _ (and_right (ltb (n.q / 16) m) _ q)) fits.a_fits fits.b_fits)
     n drawing (q_right requirement_sorts s m n right) (a_right requirement_sorts s m n right)
 
-pub gap_is : (n : Node) → is_drawing n ≡ true → (n.op ≡ 27 → ⊥) → (n.op ≡ 28 → ⊥) → n.op ≡ 29
+pub no_drawing : (n : Node) → n.op ≢ 27 → n.op ≢ 28 → n.op ≢ 29 → is_drawing n ≡ false
 unfolding is_drawing
-gap_is n e a b =
-    let low = leb-true 27 n.op (and_left (leb 27 n.op) _ e) in
-    let high = leb-true n.op 29 (and_right (leb 27 n.op) _ e) in
-    omega arith
+no_drawing n a b c = grind arith
 
 -- ---- node i copied
 copied : {y z map : List ℕ} {r : ℕ} (x : ℕ → Node) (i : ℕ) → Ready y → count y + 12 ≤ most_emitted

@@ -1,21 +1,23 @@
 // Drawings told by other formulas.
-ghost use Rattle.std.specs.Prelude.{◌<◌};
+ghost use Rattle.std.specs.Prelude.{◌≡◌, ◌<◌};
+ghost use Rattle.rows.specs.Symbols as symbols;
 ghost use Rattle.semantics.specs.Proposition.{signal, negated};
 ghost use Rattle.semantics.specs.Formula.{slen, at_least, steady};
 ghost use Rattle.semantics.specs.Translation.{undrawn_symbol, undrawn_mark, undrawn_gap};
 ghost use Rattle.stored.specs.Tree.{symbol_of};
 ghost use Rattle.plans.specs.Plan.{WroteProposition, Wrote};
 
-use crate::shared;
-use plans::node;
+use crate::shared::ANYWHERE;
+use plans::node::{Op, put};
+use rows::shape::Symbol;
 use stored::ops;
 
 // That signal k is low.
 fn put_low(out: &mut [u8], k: usize) -> usize
     ensures { WroteProposition out.old out.new result (negated (signal k)) }
 {
-    let high = node::put_signal(out, k);
-    node::put_negated(out, high)
+    let high = put(out, Op::Signal(k));
+    put(out, Op::Negated(high))
 }
 
 // Signal k low all along, or high all along.
@@ -23,39 +25,53 @@ fn put_steady(out: &mut [u8], k: usize) -> usize
     ensures { Wrote out.old out.new result (undrawn_symbol steady k) }
 {
     let low = put_low(out, k);
-    let all_low = node::put_stretch(out, low);
-    let high = node::put_signal(out, k);
-    let all_high = node::put_stretch(out, high);
-    node::put_or(out, all_low, all_high)
+    let all_low = put(out, Op::Stretch(low));
+    let high = put(out, Op::Signal(k));
+    let all_high = put(out, Op::Stretch(high));
+    put(out, Op::Or(all_low, all_high))
+}
+
+// The symbol with document 01's number q; a number that is none stands for the first.
+#[tactic(auto, unfolding(stored::specs::Tree::symbol_of))]
+fn symbol_numbered(q: usize) -> Symbol
+    ensures { symbols.symbol_of result ≡ symbol_of q }
+{
+    match q {
+        1 => Symbol::High,
+        2 | 3 => Symbol::Either,
+        4 => Symbol::LowStretch,
+        5 => Symbol::HighStretch,
+        6 => Symbol::EitherStretch,
+        7 => Symbol::Steady,
+        _ => Symbol::Low,
+    }
 }
 
 // Symbol q on signal k.
 pub fn put_symbol(out: &mut [u8], q: usize, k: usize) -> usize
     ensures { Wrote out.old out.new result (undrawn_symbol (symbol_of q) k) }
 {
-    if q == 6 {
-        return shared::ANYWHERE;
+    match symbol_numbered(q) {
+        Symbol::Low => {
+            let low = put_low(out, k);
+            put(out, Op::Unit(low))
+        }
+        Symbol::High => {
+            let high = put(out, Op::Signal(k));
+            put(out, Op::Unit(high))
+        }
+        Symbol::Either => put(out, Op::Length(ops::EQUAL, 1)),
+        Symbol::LowStretch => {
+            let low = put_low(out, k);
+            put(out, Op::Stretch(low))
+        }
+        Symbol::HighStretch => {
+            let high = put(out, Op::Signal(k));
+            put(out, Op::Stretch(high))
+        }
+        Symbol::EitherStretch => ANYWHERE,
+        Symbol::Steady => put_steady(out, k),
     }
-    if q == 7 {
-        return put_steady(out, k);
-    }
-    let half = q / 2;
-    if half == 1 {
-        return node::put_length(out, ops::EQUAL, 1);
-    }
-    if q == 1 {
-        let high = node::put_signal(out, k);
-        return node::put_unit(out, high);
-    }
-    if q == 5 {
-        let high = node::put_signal(out, k);
-        return node::put_stretch(out, high);
-    }
-    let low = put_low(out, k);
-    if q == 4 {
-        return node::put_stretch(out, low);
-    }
-    node::put_unit(out, low)
 }
 
 // A mark of name u, on an interval of length 0.
@@ -63,9 +79,9 @@ pub fn put_mark(out: &mut [u8], u: usize) -> usize
     requires { u < 65536 }
     ensures { Wrote out.old out.new result (undrawn_mark u) }
 {
-    let here = node::put_length(out, ops::EQUAL, 0);
-    let marked = node::put_point(out, 3 + 2 * u);
-    node::put_and(out, here, marked)
+    let here = put(out, Op::Length(ops::EQUAL, 0));
+    let marked = put(out, Op::Point(3 + 2 * u));
+    put(out, Op::And(here, marked))
 }
 
 // A length of `least` or more.
@@ -73,9 +89,10 @@ fn put_least(out: &mut [u8], least: usize) -> usize
     ensures { Wrote out.old out.new result (slen at_least least) }
 {
     if least == 0 {
-        return shared::ANYWHERE;
+        ANYWHERE
+    } else {
+        put(out, Op::Length(ops::AT_LEAST, least))
     }
-    node::put_length(out, ops::AT_LEAST, least)
 }
 
 // From a mark of name u to one of name v, `least` to `most` cycles.
@@ -83,12 +100,12 @@ pub fn put_gap(out: &mut [u8], u: usize, v: usize, least: usize, most: usize) ->
     requires { (u < 65536) × (v < 65536) }
     ensures { Wrote out.old out.new result (undrawn_gap u v least most) }
 {
-    let start = node::put_point(out, 3 + 2 * u);
+    let start = put(out, Op::Point(3 + 2 * u));
     let not_less = put_least(out, least);
-    let not_more = node::put_length(out, ops::AT_MOST, most);
-    let range = node::put_and(out, not_less, not_more);
-    let gap = node::put_and(out, start, range);
-    let end = node::put_point(out, 3 + 2 * v);
-    let inner = node::put_chop(out, gap, end);
-    node::put_chop(out, shared::ANYWHERE, inner)
+    let not_more = put(out, Op::Length(ops::AT_MOST, most));
+    let range = put(out, Op::And(not_less, not_more));
+    let gap = put(out, Op::And(start, range));
+    let end = put(out, Op::Point(3 + 2 * v));
+    let inner = put(out, Op::Chop(gap, end));
+    put(out, Op::Chop(ANYWHERE, inner))
 }

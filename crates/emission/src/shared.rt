@@ -4,7 +4,7 @@ ghost use Rattle.std.specs.Prelude.{◌≡◌, ◌+◌, ◌*◌, ◌<◌};
 ghost use Rattle.stored.specs.Sheet.{header_of};
 ghost use Rattle.plans.specs.Emission.{count, Good, Step, Shared, Ready};
 
-use plans::node;
+use plans::node::{Op, put};
 use stored::ops;
 
 // Length 0 or more: any interval.
@@ -20,9 +20,9 @@ fn put_lengths(out: &mut [u8])
     requires { (Good out.old) × (count out.old ≡ 0) }
     ensures { (Shared out.new 0) × (count out.new ≡ 3) × (Step out.old out.new 3) }
 {
-    node::put_length(out, ops::AT_LEAST, 0);
-    node::put_length(out, ops::ABOVE, 0);
-    node::put_length(out, ops::BELOW, 0);
+    put(out, Op::Length(ops::AT_LEAST, 0));
+    put(out, Op::Length(ops::ABOVE, 0));
+    put(out, Op::Length(ops::BELOW, 0));
 }
 
 // Name u, and that it has one mark.
@@ -30,8 +30,8 @@ fn put_name(out: &mut [u8], u: usize)
     requires { (Shared out.old u) × (count out.old ≡ 3 + 2 * u) × (u < (header_of out.old).names) }
     ensures { (Shared out.new (u + 1)) × (count out.new ≡ 3 + 2 * (u + 1)) × (Step out.old out.new 2) }
 {
-    let marked = node::put_name(out, u);
-    node::put_count(out, ops::EQUAL, marked, 1);
+    let marked = put(out, Op::Name(u));
+    put(out, Op::Count(ops::EQUAL, marked, 1));
 }
 
 pub fn put_shared(out: &mut [u8], m: usize)

@@ -4,6 +4,8 @@ use Rattle.std.specs.Prelude.{ℕ, suc, ◌+◌, ◌*◌, Bool, cond, ◌&&◌, 
 use Rattle.semantics.specs.Proposition.{Proposition, signal, name, negated}
 use Rattle.semantics.specs.Formula.{Formula, point, stretch, unit, chop, conjunction, disjunction, slen, scount, at, negation, for_some, at_most, equal, at_least, above}
 use Rattle.stored.specs.declared.Node.{Node}
+use Rattle.plans.specs.declared.node.Op.{Op}
+use Rattle.plans.specs.declared.node.Op.TheVariants as op
 use Rattle.stored.specs.Layout.{emitted_kind, least_output}
 use Rattle.stored.specs.Sheet.{header_of}
 use Rattle.stored.specs.Written.{put_node, put_header}
@@ -68,6 +70,22 @@ q_above = 4
 
 abbrev pub node : ℕ → ℕ → ℕ → ℕ → Node
 node op q a b = record { op = op; q = q; a = a; b = b }
+
+-- the node of an op with what it takes
+abbrev pub node_of : Op → Node
+node_of (op.Signal k) = node op_signal 0 k 0
+node_of (op.Name u) = node op_name 0 u 0
+node_of (op.Negated a) = node op_negated 0 a 0
+node_of (op.Point a) = node op_point 0 a 0
+node_of (op.Stretch a) = node op_stretch 0 a 0
+node_of (op.Unit a) = node op_unit 0 a 0
+node_of (op.Chop a b) = node op_chop 0 a b
+node_of (op.And a b) = node op_and 0 a b
+node_of (op.Or a b) = node op_or 0 a b
+node_of (op.Length c n) = node op_length c 0 n
+node_of (op.Count c a n) = node op_count c a n
+node_of (op.Not a) = node op_not 0 a 0
+node_of (op.Column u a) = node op_some 0 a u
 
 -- the fields of node n fit their bytes, and there is room for one node more
 unfoldable pub fits : List ℕ → Node → Bool

@@ -1,31 +1,71 @@
-// One node more of the sheet that is being written. Each function gives the new node's number.
+// One node more of the sheet that is being written.
 ghost use Rattle.std.specs.Prelude.{◌≡◌};
-ghost use Rattle.plans.specs.Plan.{fits, Put, node, op_signal, op_name, op_negated, op_point, op_stretch, op_unit, op_chop, op_and, op_or, op_length, op_count, op_not, op_some};
+ghost use Rattle.plans.specs.Plan.{fits, node_of, Put};
 
 use stored::{Node, bytes, layout, ops, writer};
 
 // Document 01's bound on a formula's nodes at its largest.
 pub const MOST_EMITTED: usize = 1025;
 
+// What a formula that is written says of one node: its op, with the signal, the name, the comparison (as `ops` has it), the number or the
+// operands' nodes that it takes.
+#[derive(Clone, Copy)]
+pub enum Op {
+    Signal(usize),
+    Name(usize),
+    Negated(usize),
+    Point(usize),
+    Stretch(usize),
+    Unit(usize),
+    Chop(usize, usize),
+    And(usize, usize),
+    Or(usize, usize),
+    // The length, compared with a number.
+    Length(usize, usize),
+    // How often a proposition holds, compared with a number.
+    Count(usize, usize, usize),
+    Not(usize),
+    // Some column for a name.
+    Column(usize, usize),
+}
+
+impl From<Op> for Node {
+    ghost from_gives = { λ op x. x ≡ node_of op };
+
+    fn from(op: Op) -> Node {
+        let (op, q, a, b) = match op {
+            Op::Signal(k) => (ops::SIGNAL, 0, k, 0),
+            Op::Name(u) => (ops::NAME, 0, u, 0),
+            Op::Negated(a) => (ops::NOT_P, 0, a, 0),
+            Op::Point(a) => (ops::POINT, 0, a, 0),
+            Op::Stretch(a) => (ops::STRETCH, 0, a, 0),
+            Op::Unit(a) => (ops::UNIT, 0, a, 0),
+            Op::Chop(a, b) => (ops::CHOP, 0, a, b),
+            Op::And(a, b) => (ops::AND, 0, a, b),
+            Op::Or(a, b) => (ops::OR, 0, a, b),
+            Op::Length(compared, n) => (ops::SLEN, compared, 0, n),
+            Op::Count(compared, a, n) => (ops::SCOUNT, compared, a, n),
+            Op::Not(a) => (ops::NOT, 0, a, 0),
+            Op::Column(u, a) => (ops::SOME, 0, a, u),
+        };
+        Node { op, q, a, b }
+    }
+}
+
 // The node's fields fit their bytes, and there is room for one node more.
+#[tactic(auto, unfolding(crate::specs::Plan::fits))]
 fn fits(out: &[u8], x: Node) -> bool
     ensures { result ≡ fits out.now x }
 {
-    if out.len() < layout::LEAST_OUTPUT {
-        return false;
-    }
-    let op = x.op < 256;
-    let q = x.q < 256;
-    let a = x.a < 65536;
-    let b = x.b < 65536;
-    (op & (q & (a & b))) & (writer::count(out) < MOST_EMITTED)
+    layout::LEAST_OUTPUT <= out.len()
+        && (x.op < 256 && x.q < 256 && x.a < 65536 && x.b < 65536)
+        && writer::count(out) < MOST_EMITTED
 }
 
-// The next node, whatever it is; nothing is written where it does not fit.
-pub fn put(out: &mut [u8], op: usize, q: usize, a: usize, b: usize) -> usize
-    ensures { Put (node op q a b) out.old out.new result }
+// The next node, whatever it is, and its number; where it does not fit nothing is written, and the number is 0.
+pub fn put_node(out: &mut [u8], x: Node) -> usize
+    ensures { Put x out.old out.new result }
 {
-    let x = Node { op, q, a, b };
     if !fits(out, x) {
         return 0;
     }
@@ -38,83 +78,9 @@ pub fn put(out: &mut [u8], op: usize, q: usize, a: usize, b: usize) -> usize
     n
 }
 
-pub fn put_signal(out: &mut [u8], k: usize) -> usize
-    ensures { Put (node op_signal 0 k 0) out.old out.new result }
+// The next node, by its op.
+pub fn put(out: &mut [u8], op: Op) -> usize
+    ensures { Put (node_of op) out.old out.new result }
 {
-    put(out, ops::SIGNAL, 0, k, 0)
-}
-
-pub fn put_name(out: &mut [u8], u: usize) -> usize
-    ensures { Put (node op_name 0 u 0) out.old out.new result }
-{
-    put(out, ops::NAME, 0, u, 0)
-}
-
-pub fn put_negated(out: &mut [u8], a: usize) -> usize
-    ensures { Put (node op_negated 0 a 0) out.old out.new result }
-{
-    put(out, ops::NOT_P, 0, a, 0)
-}
-
-pub fn put_point(out: &mut [u8], a: usize) -> usize
-    ensures { Put (node op_point 0 a 0) out.old out.new result }
-{
-    put(out, ops::POINT, 0, a, 0)
-}
-
-pub fn put_stretch(out: &mut [u8], a: usize) -> usize
-    ensures { Put (node op_stretch 0 a 0) out.old out.new result }
-{
-    put(out, ops::STRETCH, 0, a, 0)
-}
-
-pub fn put_unit(out: &mut [u8], a: usize) -> usize
-    ensures { Put (node op_unit 0 a 0) out.old out.new result }
-{
-    put(out, ops::UNIT, 0, a, 0)
-}
-
-pub fn put_chop(out: &mut [u8], a: usize, b: usize) -> usize
-    ensures { Put (node op_chop 0 a b) out.old out.new result }
-{
-    put(out, ops::CHOP, 0, a, b)
-}
-
-pub fn put_and(out: &mut [u8], a: usize, b: usize) -> usize
-    ensures { Put (node op_and 0 a b) out.old out.new result }
-{
-    put(out, ops::AND, 0, a, b)
-}
-
-pub fn put_or(out: &mut [u8], a: usize, b: usize) -> usize
-    ensures { Put (node op_or 0 a b) out.old out.new result }
-{
-    put(out, ops::OR, 0, a, b)
-}
-
-// The length compared with b.
-pub fn put_length(out: &mut [u8], q: usize, b: usize) -> usize
-    ensures { Put (node op_length q 0 b) out.old out.new result }
-{
-    put(out, ops::SLEN, q, 0, b)
-}
-
-// How often proposition a holds, compared with b.
-pub fn put_count(out: &mut [u8], q: usize, a: usize, b: usize) -> usize
-    ensures { Put (node op_count q a b) out.old out.new result }
-{
-    put(out, ops::SCOUNT, q, a, b)
-}
-
-pub fn put_not(out: &mut [u8], a: usize) -> usize
-    ensures { Put (node op_not 0 a 0) out.old out.new result }
-{
-    put(out, ops::NOT, 0, a, 0)
-}
-
-// Some column for name u.
-pub fn put_some(out: &mut [u8], u: usize, a: usize) -> usize
-    ensures { Put (node op_some 0 a u) out.old out.new result }
-{
-    put(out, ops::SOME, 0, a, u)
+    put_node(out, Node::from(op))
 }

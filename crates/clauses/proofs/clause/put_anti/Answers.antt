@@ -6,4 +6,4 @@ use Rattle.clauses.proofs.clause.put_anti.Goals as goal
 pub returns : goal.returns
 unfolding broken_of anywhere
 returns c =
-    chopped everywhere (chopped c.put_placed-given.ensures everywhere c.put_chop-started.ensures) c.put_chop.ensures
+    chopped everywhere (chopped c.put_placed-given.ensures everywhere c.put-started.ensures) c.put.ensures

@@ -7,7 +7,7 @@ use Rattle.clauses.proofs.clause.put_follows.Goals as goal
 pub returns : goal.returns
 unfolding broken_of anywhere
 returns c =
-    let later = chopped c.put_unanswered-unanswered.ensures everywhere c.put_chop-rest.ensures in
-    let both = chopped c.put_once-first.ensures later c.put_chop-joined.ensures in
+    let later = chopped c.put_unanswered-unanswered.ensures everywhere c.put-rest.ensures in
+    let both = chopped c.put_once-first.ensures later c.put-joined.ensures in
     let placed = rw c.both-names.ensures at c.put_placed-placed.ensures in
-    chopped everywhere (placed_over _ both placed) c.put_chop.ensures
+    chopped everywhere (placed_over _ both placed) c.put.ensures

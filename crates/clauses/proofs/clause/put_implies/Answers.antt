@@ -8,7 +8,7 @@ pub returns : goal.returns
 unfolding broken_of anywhere
 returns c =
     let given = rw c.besides-rest.ensures at c.put_placed-given.ensures in
-    let missed = denied given c.put_not-missed.ensures in
-    let unanswered = conjoined there missed c.put_and-unanswered.ensures in
-    let started = chopped (placed_over _ unanswered c.put_placed-placed.ensures) everywhere c.put_chop-started.ensures in
-    chopped everywhere started c.put_chop.ensures
+    let missed = denied given c.put-missed.ensures in
+    let unanswered = conjoined there missed c.put-unanswered.ensures in
+    let started = chopped (placed_over _ unanswered c.put_placed-placed.ensures) everywhere c.put-started.ensures in
+    chopped everywhere started c.put.ensures

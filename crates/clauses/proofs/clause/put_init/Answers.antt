@@ -8,6 +8,6 @@ pub returns : goal.returns
 unfolding broken_of anywhere
 returns c =
     let given = rw c.besides-rest.ensures at c.put_placed-given.ensures in
-    let missed = denied (chopped given everywhere c.put_chop-somewhere.ensures) c.put_not-missed.ensures in
-    let unanswered = conjoined there missed c.put_and-unanswered.ensures in
-    chopped (placed_over _ unanswered c.put_placed-placed.ensures) everywhere c.put_chop.ensures
+    let missed = denied (chopped given everywhere c.put-somewhere.ensures) c.put-missed.ensures in
+    let unanswered = conjoined there missed c.put-unanswered.ensures in
+    chopped (placed_over _ unanswered c.put_placed-placed.ensures) everywhere c.put.ensures

@@ -6,4 +6,4 @@ use Rattle.clauses.proofs.clause.put_pref.Goals as goal
 pub returns : goal.returns
 unfolding broken_of anywhere
 returns c =
-    chopped (denied c.put_placed-held.ensures c.put_not-missed.ensures) everywhere c.put_chop.ensures
+    chopped (denied c.put_placed-held.ensures c.put-missed.ensures) everywhere c.put.ensures

@@ -6,4 +6,4 @@ use Rattle.clauses.proofs.clause.put_shortest.Goals as goal
 pub returns : goal.returns
 unfolding shortest_of extended
 returns c =
-    conjoined there (denied (chopped there longer c.put_chop-longer.ensures) c.put_not-not_longer.ensures) c.put_and.ensures
+    conjoined there (denied (chopped there longer c.put-longer.ensures) c.put-not_longer.ensures) c.put.ensures

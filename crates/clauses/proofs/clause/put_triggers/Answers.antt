@@ -7,8 +7,8 @@ use Rattle.clauses.proofs.clause.put_triggers.Goals as goal
 pub returns : goal.returns
 unfolding broken_of anywhere
 returns c =
-    let first = chopped c.put_once-once.ensures everywhere c.put_chop-first.ensures in
-    let later = chopped c.put_unanswered-unanswered.ensures everywhere c.put_chop-rest.ensures in
-    let both = conjoined first later c.put_and-joined.ensures in
+    let first = chopped c.put_once-once.ensures everywhere c.put-first.ensures in
+    let later = chopped c.put_unanswered-unanswered.ensures everywhere c.put-rest.ensures in
+    let both = conjoined first later c.put-joined.ensures in
     let placed = rw c.both-names.ensures at c.put_placed-placed.ensures in
-    chopped everywhere (placed_over _ both placed) c.put_chop.ensures
+    chopped everywhere (placed_over _ both placed) c.put.ensures

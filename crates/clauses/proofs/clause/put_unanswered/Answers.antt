@@ -10,5 +10,5 @@ returns c =
     let added = rw c.besides-added.ensures at c.put_once-ended.ensures in
     let ended = once_over _ c.put_shortest-shortest.ensures added in
     let given = rw (c.besides-rest.ensures, c.both.ensures) at c.put_placed-given.ensures in
-    let missed = denied (chopped given everywhere c.put_chop-somewhere.ensures) c.put_not-missed.ensures in
-    conjoined ended missed c.put_and.ensures
+    let missed = denied (chopped given everywhere c.put-somewhere.ensures) c.put-missed.ensures in
+    conjoined ended missed c.put.ensures

@@ -8,4 +8,4 @@ returns-then-role-ge-SIDES c = passed c.if-role-ge-SIDES.true
 
 pub returns : goal.returns
 returns c =
-    joined (omega (arith, c.if-role-ge-SIDES.false)) c.put_clause-broken.ensures c.put_or.ensures
+    joined (omega (arith, c.if-role-ge-SIDES.false)) c.put_clause-broken.ensures c.put.ensures

@@ -23,11 +23,11 @@ loop-k-preserved c =
     let copied = c.copy_nodes-map.ensures in
     let p = c.requires in
     joined_next _ _ _ _ _ (ready_kept copied.0 p.0) (copied_few (node_at c.args.nodes.now) c.args.n copied.0 p.1 p.2.few) (clauses_kept copied.0 p.3) copied.1
-    c.loop-k-test.true c.stored_at.ensures c.loop-k.invariant c.join_clause-sides.ensures
+    c.loop-k-test.true c.stored_at.ensures c.loop-k.invariant c.join_clause.ensures
 
 pub returns : goal.returns
 returns c =
     let copied = c.copy_nodes-map.ensures in
     let p = c.requires in
     joined_done _ _ _ _ _ (omega arith) p.3.few copied.0 (copied_few (node_at c.args.nodes.now) c.args.n copied.0 p.1 p.2.few)
-    c.loop-k.invariant c.put_not-kept.ensures c.put_or.ensures
+    c.loop-k.invariant c.put-kept.ensures c.put.ensures

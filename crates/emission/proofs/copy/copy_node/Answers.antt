@@ -1,28 +1,23 @@
 -- `emission::copy::copy_node` meets its contract.
-use mathlib.Core.Path.{sym}
-use Rattle.stored.specs.Written.{NodeFits}
+use Rattle.std.proofs.Common.{refl, arith}
+use Rattle.semantics.specs.Translation.{undrawn}
+use Rattle.stored.specs.Tree.{formula_of, formula_op}
 use Rattle.plans.specs.Bound.{is_drawing}
-use Rattle.emission.specs.Copying.{by_others, itself}
-use Rattle.emission.proofs.Copies.{node_fits}
-use Rattle.emission.proofs.copy.copy_node.Lts as lts
-use Rattle.emission.proofs.copy.copy_node.Tie as tie
-use Rattle.emission.proofs.copy.copy_node.Reads as reads
+use Rattle.emission.specs.Copying.{drawing_of, by_others, itself}
+use Rattle.emission.proofs.Copied.{no_drawing}
 use Rattle.emission.proofs.copy.copy_node.Goals as goal
 
--- the fields that were read fit their bytes
-read_fits : (c : lts.After-node_at tie.the-claims reads.Pre reads.Post) → NodeFits c.node_at-x.result
-read_fits c = rw c.node_at-x.ensures (node_fits _ _ (λ k. (c.before.shared_slice_known-2-1.given k).fits))
+pub returns-in-27 : goal.returns-in-27
+unfolding is_drawing drawing_of formula_of formula_op undrawn
+returns-in-27 c = by_others (rw c.in-27.is refl) c.requires (rw c.in-27.is c.put_symbol.ensures)
 
-pub put_drawing-requires : goal.put_drawing-requires
-unfolding is_drawing
-put_drawing-requires c = (c.if-op.true, read_fits c.before.before.before)
+pub returns-in-28 : goal.returns-in-28
+unfolding is_drawing drawing_of formula_of formula_op undrawn
+returns-in-28 c = by_others (rw c.in-28.is refl) c.requires (rw c.in-28.is c.put_mark.ensures)
 
-pub returns-then-op : goal.returns-then-op
-unfolding is_drawing
-returns-then-op c =
-    rw (sym c.node_at-x.ensures) (by_others c.if-op.true (read_fits c.before.before.before.before.before.before) c.put_drawing.ensures)
+pub returns-in-29 : goal.returns-in-29
+unfolding is_drawing drawing_of formula_of formula_op undrawn
+returns-in-29 c = by_others (rw c.in-29.is refl) c.requires (rw c.in-29.is c.put_gap.ensures)
 
-pub returns : goal.returns
-unfolding is_drawing
-returns c =
-    rw (sym c.node_at-x.ensures) (itself c.if-op.false (read_fits c.before.before.before.before.before.before) c.put_copy.ensures)
+pub returns-in_default : goal.returns-in_default
+returns-in_default c = itself (no_drawing _ (omega arith) (omega arith) (omega arith)) c.requires c.put_copy.ensures

@@ -19,7 +19,7 @@ overflow_add-v c = omega arith
 pub returns : goal.returns
 unfolding undrawn_gap anywhere
 returns c =
-    let start = pointed named c.put_point-start.ensures in
-    let range = conjoined c.put_least-not_less.ensures (no_more c.put_length-not_more.ensures) c.put_and-range.ensures in
-    let end = pointed named c.put_point-end.ensures in
-    chopped everywhere (chopped (conjoined start range c.put_and-gap.ensures) end c.put_chop-inner.ensures) c.put_chop.ensures
+    let start = pointed named c.put-start.ensures in
+    let range = conjoined c.put_least-not_less.ensures (no_more c.put-not_more.ensures) c.put-range.ensures in
+    let end = pointed named c.put-end.ensures in
+    chopped everywhere (chopped (conjoined start range c.put-gap.ensures) end c.put-inner.ensures) c.put.ensures

@@ -4,4 +4,4 @@ use Rattle.emission.proofs.drawing.put_low.Goals as goal
 
 pub returns : goal.returns
 returns c =
-    negated_of (signalled c.put_signal-high.ensures) c.put_negated.ensures
+    negated_of (signalled c.put-high.ensures) c.put.ensures

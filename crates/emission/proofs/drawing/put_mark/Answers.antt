@@ -13,4 +13,4 @@ overflow_add-u c = omega arith
 pub returns : goal.returns
 unfolding undrawn_mark
 returns c =
-    conjoined (exactly c.put_length-here.ensures) (pointed named c.put_point-marked.ensures) c.put_and.ensures
+    conjoined (exactly c.put-here.ensures) (pointed named c.put-marked.ensures) c.put.ensures

@@ -6,6 +6,6 @@ use Rattle.emission.proofs.drawing.put_steady.Goals as goal
 pub returns : goal.returns
 unfolding undrawn_symbol
 returns c =
-    let low = stretched c.put_low-low.ensures c.put_stretch-all_low.ensures in
-    let high = stretched (signalled c.put_signal-high.ensures) c.put_stretch-all_high.ensures in
-    disjoined low high c.put_or.ensures
+    let low = stretched c.put_low-low.ensures c.put-all_low.ensures in
+    let high = stretched (signalled c.put-high.ensures) c.put-all_high.ensures in
+    disjoined low high c.put.ensures

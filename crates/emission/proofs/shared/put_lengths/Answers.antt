@@ -4,4 +4,4 @@ use Rattle.emission.proofs.shared.put_lengths.Goals as goal
 
 pub returns : goal.returns
 returns c =
-    shared_start c.requires.0 c.requires.1 c.put_length.ensures c.put_length-2.ensures c.put_length-3.ensures
+    shared_start c.requires.0 c.requires.1 c.put.ensures c.put-2.ensures c.put-3.ensures

@@ -4,4 +4,4 @@ use Rattle.emission.proofs.shared.put_name.Goals as goal
 
 pub returns : goal.returns
 returns c =
-    shared_next _ c.requires.0 c.requires.1 c.requires.2 c.put_name-marked.ensures c.put_count.ensures
+    shared_next _ c.requires.0 c.requires.1 c.requires.2 c.put-marked.ensures c.put.ensures

@@ -1,11 +1,8 @@
--- `plans::node::put` meets its contract.
+-- `plans::node::put_node` meets its contract.
 use mathlib.Core.Path.{sym, ◌∙◌}
 use native.Mathlib.Omega.{arith}
 use Rattle.plans.proofs.Steps.{fits_open, put_none, put_made}
-use Rattle.plans.proofs.node.put.Goals as goal
-
-pub returns-then-not-fits : goal.returns-then-not-fits
-returns-then-not-fits c = put_none (sym c.fits.ensures ∙ c.if-not-fits.true)
+use Rattle.plans.proofs.node.put_node.Goals as goal
 
 pub byte-s-requires : goal.byte-s-requires
 byte-s-requires c = omega (arith, (fits_open _ _ (sym c.fits.ensures ∙ c.if-not-fits.false)).long)
