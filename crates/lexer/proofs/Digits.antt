@@ -1,18 +1,18 @@
 -- The number that digits stand for, read one digit at a time and capped.
-use Prim.Native.Nat.{ℕ, ◌+◌, ◌-◌, ◌*◌, ◌≤◌, ◌<◌}
+use Prim.Native.Nat.{ℕ, suc, ◌+◌, ◌-◌, ◌*◌, ◌≤◌, ◌<◌}
 use mathlib.Core.Bool.{Bool, true, false, cond}
 use mathlib.Core.List.{List, [], ◌∷◌}
-use mathlib.Core.Logic.{inl, inr}
-use mathlib.Core.Path.{◌≡◌, refl, sym, ◌∙◌}
+use mathlib.Core.Path.{◌≡◌, refl}
 use native.Mathlib.Numerals.{add-one}
 use native.Mathlib.Omega.{arith}
-use borrow.Author.Tests.{leb-true, leb-false, le-leb, lt-leb, ne_eqb}
+use borrow.Author.Tests.{leb-true, leb-false, lt-leb, ne_eqb}
 use lib.Dec.{leb}
 use lib.ListN.{length, get_or, drop, drop_of_length-le}
 use lib.Seq.{drop-cons}
-use Rattle.semantics.proofs.Tests.{test, and_left, and_right}
-use Rattle.grammar.specs.Token.{outside, is_blank, is_digit, digits, number_from, numbered}
-use Rattle.lexer.specs.Lexed.{capped}
+use Rattle.semantics.proofs.Tests.{and_left, and_right}
+use Rattle.std.proofs.Common.{Option, Some, None}
+use Rattle.grammar.specs.Token.{Token, outside, is_blank, is_digit, digits, number_from, numbered}
+use Rattle.lexer.specs.Lexed.{with_digit, told, Small}
 
 module _ (b : ℕ) (h : is_digit b ≡ true) where
   pub digit_low : 48 ≤ b
@@ -43,29 +43,31 @@ over : (n : ℕ) → 65535 < n → numbered n ≡ outside
 unfolding numbered
 over n h = rw (lt-leb n 65535 h)
 
-pub numbered_capped : (n : ℕ) (text : List ℕ) → numbered (number_from (capped n) text) ≡ numbered (number_from n text)
-unfolding capped
-numbered_capped n text = go (leb n 65535) refl
+pub with_digit_small : (value : Option ℕ) (b : ℕ) → Small (with_digit value b)
+unfolding with_digit
+with_digit_small None b = tt
+with_digit_small (Some n) b = go (leb (n * 10 + (b - 48)) 65535) refl
   where
-    go : (small : Bool) → leb n 65535 ≡ small → numbered (number_from (cond small n 65536) text) ≡ numbered (number_from n text)
+    go : (small : Bool) → leb (n * 10 + (b - 48)) 65535 ≡ small → Small (cond small (Some (n * 10 + (b - 48))) None)
+    go true e = leb-true (n * 10 + (b - 48)) 65535 e
+    go false e = tt
+
+-- what the number read so far becomes by the digits that a text begins with
+unfoldable pub read_on : Option ℕ → List ℕ → Token
+read_on None text = outside
+read_on (Some n) text = numbered (number_from n text)
+
+read_digit : (value : Option ℕ) (b : ℕ) (text : List ℕ) → is_digit b ≡ true → read_on value (b ∷ text) ≡ read_on (with_digit value b) text
+unfolding read_on with_digit number_from
+read_digit None b text h = refl
+read_digit (Some n) b text h = rw h (go (leb (n * 10 + (b - 48)) 65535) refl)
+  where
+    go : (small : Bool) → leb (n * 10 + (b - 48)) 65535 ≡ small
+        → numbered (number_from (n * 10 + (b - 48)) text) ≡ read_on (cond small (Some (n * 10 + (b - 48))) None) text
     go true e = refl
     go false e =
-        let high : 65535 < n = leb-false n 65535 e in
-        let grown = number_grows text n in
-        let grown-too = number_grows text 65536 in
-        over (number_from 65536 text) (omega arith) ∙ sym (over (number_from n text) (omega arith))
-
-pub capped_small : (n : ℕ) → n ≤ 65535 → capped n ≡ n
-unfolding capped
-capped_small n h = rw (le-leb n 65535 h)
-
-pub capped_large : (n : ℕ) → 65535 < n → capped n ≡ 65536
-unfolding capped
-capped_large n h = rw (lt-leb n 65535 h)
-
-pub capped_most : (n : ℕ) → capped n ≤ 65536
-unfolding capped
-capped_most n = elim (test (leb n 65535)) [ inl e ↦ rw e (omega (arith, leb-true n 65535 e)) | inr e ↦ rw e (omega arith) ]
+        let high : 65535 < n * 10 + (b - 48) = leb-false (n * 10 + (b - 48)) 65535 e in
+        over (number_from (n * 10 + (b - 48)) text) (omega (arith, number_grows text (n * 10 + (b - 48))))
 
 module _ (text : List ℕ) (i : ℕ) where
   -- a digit
@@ -73,25 +75,26 @@ module _ (text : List ℕ) (i : ℕ) where
   unfolding digits
   digits_more h e = rw (drop-cons text i 0 h, e, add-one) (omega arith)
 
-  pub number_more : (high : ℕ) → i < length text → is_digit (get_or text i 0) ≡ true
-      → number_from high (drop i text) ≡ number_from (high * 10 + (get_or text i 0 - 48)) (drop (i + 1) text)
-  unfolding number_from
-  number_more high h e = rw (drop-cons text i 0 h, e, add-one)
+  pub number_more : (value : Option ℕ) → i < length text → is_digit (get_or text i 0) ≡ true
+      → read_on value (drop i text) ≡ read_on (with_digit value (get_or text i 0)) (drop (i + 1) text)
+  number_more value h e = rw (drop-cons text i 0 h, add-one) (read_digit value (get_or text i 0) (drop (suc i) text) e)
 
   -- no digit
   pub digits_none : i < length text → is_digit (get_or text i 0) ≡ false → digits (drop i text) ≡ 0
   unfolding digits
   digits_none h e = rw (drop-cons text i 0 h, e)
 
-  pub number_done : (high : ℕ) → i < length text → is_digit (get_or text i 0) ≡ false → number_from high (drop i text) ≡ high
-  unfolding number_from
-  number_done high h e = rw (drop-cons text i 0 h, e)
+  pub number_done : (value : Option ℕ) → i < length text → is_digit (get_or text i 0) ≡ false → read_on value (drop i text) ≡ told value
+  unfolding read_on told number_from
+  number_done None h e = refl
+  number_done (Some n) h e = rw (drop-cons text i 0 h, e)
 
   -- the end of the text
   pub digits_end : length text ≤ i → digits (drop i text) ≡ 0
   unfolding digits
   digits_end h = rw (drop_of_length-le text h)
 
-  pub number_end : (high : ℕ) → length text ≤ i → number_from high (drop i text) ≡ high
-  unfolding number_from
-  number_end high h = rw (drop_of_length-le text h)
+  pub number_end : (value : Option ℕ) → length text ≤ i → read_on value (drop i text) ≡ told value
+  unfolding read_on told number_from
+  number_end None h = refl
+  number_end (Some n) h = rw (drop_of_length-le text h)

@@ -4,14 +4,15 @@ use mathlib.Core.Bool.{true, false, true≢false}
 use mathlib.Core.List.{List, [], ◌∷◌}
 use mathlib.Core.Path.{◌≡◌, refl, sym, ap, ◌∙◌}
 use native.Mathlib.Omega.{arith}
+use borrow.Author.Tests.{le-leb}
 use lib.ListN.{length, get_or, take, drop, length-drop, drop_of_length-le}
 use lib.Seq.{drop-cons, take_all, get_or-drop}
 use Rattle.grammar.specs.Token.{Token, Spelling, spelling_of, spellings, is_blank, is_digit, numbered, tokens, tokens_past}
 use Rattle.grammar.specs.Class.{class_of}
 use Rattle.lexer.specs.declared.Lexed.{Lexed}
 use Rattle.lexer.specs.declared.Token.{Token as Lexeme}
-use Rattle.lexer.specs.declared.Token.TheVariants.{Outside, End}
-use Rattle.lexer.specs.Lexed.{meant, is_end, leads, Bounded, Means, Skipped, Munched, Next}
+use Rattle.lexer.specs.declared.Token.TheVariants.{Number, Outside, End}
+use Rattle.lexer.specs.Lexed.{meant, is_end, leads, Bounded, Means, Skipped, Munched, Next, told, Small}
 use Rattle.lexer.specs.declared.numbers.Numeral.{Numeral}
 use Rattle.lexer.specs.declared.spellings.Spelling.{Spelling as Row}
 use Rattle.lexer.specs.Rows.{Found}
@@ -32,11 +33,22 @@ token_read text at after t g means e onward within =
       bounded = means.bounded;
     }
 
+-- the token of a number, and of one that is too large
+pub number_means : (value : Option ℕ) (n : ℕ) → value ≡ Some n → Small value → Means (Number n) (told value)
+unfolding told numbered meant is_end
+number_means value n e small =
+    let h : n ≤ 65535 = rw e at small in
+    rw e (record { same = rw (le-leb n 65535 h); goes = refl; bounded = h })
+
+pub none_means : Means Outside (told None)
+unfolding told meant is_end
+none_means = record { same = refl; goes = refl; bounded = tt }
+
 -- the number whose first digit stands at this place
 pub number_read : (text : List ℕ) (at : ℕ) (r : Numeral) (t : Lexeme) → at < length text → is_digit (get_or text at 0) ≡ true
-    → Munched text at r → Means t (numbered r.value) → Next text at (record { token = t; at = r.at })
+    → Munched text at r → Means t (told r.value) → Next text at (record { token = t; at = r.at })
 number_read text at r t h e munched means =
-    token_read text at r.at t (numbered r.value) means
+    token_read text at r.at t (told r.value) means
     (number_at text at h e ∙ rw (munched.value, munched.past))
     (omega (arith, munched.past, digits_more text at h e))
     munched.within

@@ -1,5 +1,5 @@
 -- What the lexer reads from a place of a text.
-use Rattle.std.specs.Prelude.{ℕ, ◌+◌, ◌≤◌, ◌<◌, Bool, true, false, cond, List, [], ◌∷◌, ◌≡◌, leb, length, get_or, drop}
+use Rattle.std.specs.Prelude.{ℕ, ◌+◌, ◌-◌, ◌*◌, ◌≤◌, ◌<◌, Bool, true, false, cond, List, [], ◌∷◌, ◌≡◌, Option, Some, None, leb, length, get_or, drop}
 use Rattle.grammar.specs.Token.{Token, plain, signalled, named, number, outside, is_blank, digits, number_from, numbered, tokens}
 use Rattle.lexer.specs.declared.Lexed.{Lexed}
 use Rattle.lexer.specs.declared.Token.{Token as Lexeme}
@@ -42,9 +42,19 @@ pub record Means (t : Lexeme) (g : Token) : Type 0 where
   pub goes : is_end t ≡ false
   pub bounded : Bounded t
 
--- 65,536 stands for every larger number
-unfoldable pub capped : ℕ → ℕ
-capped n = cond (leb n 65535) n 65536
+-- a number with one more digit, none where it is more than 65,535
+unfoldable pub with_digit : Option ℕ → ℕ → Option ℕ
+with_digit None b = None
+with_digit (Some n) b = cond (leb (n * 10 + (b - 48)) 65535) (Some (n * 10 + (b - 48))) None
+
+-- the token of a number, of none where it is more than 65,535
+unfoldable pub told : Option ℕ → Token
+told None = outside
+told (Some n) = numbered n
+
+abbrev pub Small : Option ℕ → Type 0
+Small None = Unit
+Small (Some n) = n ≤ 65535
 
 -- only blanks lie between, and r has none
 pub record Skipped (text : List ℕ) (at r : ℕ) : Type 0 where
@@ -54,7 +64,8 @@ pub record Skipped (text : List ℕ) (at r : ℕ) : Type 0 where
 
 -- the number at this place, and the place after its digits
 pub record Munched (text : List ℕ) (at : ℕ) (r : Numeral) : Type 0 where
-  pub value : numbered (number_from 0 (drop at text)) ≡ numbered r.value
+  pub value : numbered (number_from 0 (drop at text)) ≡ told r.value
+  pub small : Small r.value
   pub past : at + digits (drop at text) ≡ r.at
   pub within : r.at ≤ length text
 

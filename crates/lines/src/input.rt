@@ -9,10 +9,7 @@ use stored::layout::LEAST_WORDS;
 pub fn byte_at(input: &[u8], k: usize) -> usize
     ensures { (result ≡ get_or input.now k 0) × (result < 256) }
 {
-    if k < input.len() {
-        return stored::bytes::byte(input, k);
-    }
-    0
+    input.get(k).map_or(0, |byte| usize::from(*byte))
 }
 
 pub fn word_at(input: &[u8], k: usize) -> usize
@@ -27,7 +24,7 @@ pub fn split(input: &[u8]) -> usize
     ensures { (result ≡ split_at input.now) × (result ≤ length input.now) }
 {
     let end = word_at(input, 0) + 2;
-    if end < input.len() { end } else { input.len() }
+    end.min(input.len())
 }
 
 // The words that a program lends.
