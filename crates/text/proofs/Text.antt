@@ -34,7 +34,7 @@ use Rattle.typed.specs.Draft.{Draft, draft, empty, sketch_of, too_many, sheet_by
 use Rattle.typed.proofs.Writing.{front_taken}
 use Rattle.typed.proofs.Sheet.{typed_clauses, typed_requirement, typed_verdict}
 use Rattle.text.specs.declared.sheet.GotSheet.{GotSheet}
-use Rattle.text.specs.Parts.{Drawn, SheetRead, draft_refusal}
+use Rattle.text.specs.Parts.{Drawn, SheetTook, draft_refusal}
 use Rattle.text.specs.Text.{said_refusal, RefusedBy, WrittenAs, ReadText}
 
 -- the number of the sheet that was put together at the front of y
@@ -192,34 +192,34 @@ module _ (text x : List ℕ) where
                 };
           }
 
+    pub unread_outside : parse 32 (tokens text) ≡ none → ReadText text x x (Refused 19)
+    unread_outside bad = outside_grammar (outside_unread text shallow bad)
+
     -- what the code read into the areas, which were empty
     module _ (a b nodes clauses : List ℕ) (r : GotSheet) (a-empty : a ≡ replicate 384 0) (b-empty : b ≡ replicate 88 0)
-        (read : SheetRead text a b nodes clauses r) where
-      pub unread_outside : r.ok ≡ false → ReadText text x x (Refused 19)
-      unread_outside bad = outside_grammar (outside_unread text shallow (read.fails bad))
-
-      module _ (ends : Bool) (e₂ : ends ≡ ends_line text) (h₂ : ends ≡ true) (good : r.ok ≡ true) where
+        (read : SheetTook text a b nodes clauses r) where
+      module _ (ends : Bool) (e₂ : ends ≡ ends_line text) (h₂ : ends ≡ true) where
         ended : ends_line text ≡ true
         ended = sym e₂ ∙ h₂
 
         t : TypedSheet
-        t = (read.took good).tree
+        t = read.tree
 
         drawn : Drawn (sketch_of t) nodes r.count clauses r.many
         unfolding t sketch_of
-        drawn = (read.took good).drawn empty (rw (a-empty, b-empty) drawn_empty)
+        drawn = read.drawn empty (rw (a-empty, b-empty) drawn_empty)
 
         number_same : draft_refusal r.signals r.names (draft nodes r.count) (draft clauses r.many) (length x) ≡ said_refusal t (length x)
         unfolding t
         number_same =
             ap₂ (λ (s m : ℕ). draft_refusal s m (draft nodes r.count) (draft clauses r.many) (length x))
-            (read.took good).signals_said (read.took good).names_said
+            read.signals_said read.names_said
             ∙ refusal_same t nodes r.count clauses r.many drawn (length x)
 
         module _ (number : ℕ) (is : number ≡ draft_refusal r.signals r.names (draft nodes r.count) (draft clauses r.many) (length x)) where
           pub read_by_number : (number ≡ 0 → ⊥) → ReadText text x x (Refused number)
           unfolding t
-          read_by_number Some-number = read_refused ended t (read.took good).said number (is ∙ number_same) Some-number
+          read_by_number Some-number = read_refused ended t read.said number (is ∙ number_same) Some-number
 
           pub read_free : number ≡ 0 → Free r.count r.many (length x)
           read_free zero_number =
@@ -233,10 +233,10 @@ module _ (text x : List ℕ) where
               let free = read_free zero_number in
               let same =
               ap₂ (λ (s m : ℕ). sheet_bytes s m (draft nodes r.count) (draft clauses r.many))
-              (read.took good).signals_said (read.took good).names_said
+              read.signals_said read.names_said
               ∙ bytes_same t nodes r.count clauses r.many drawn (length x) free.few_nodes
               in
-              read_written ended t (read.took good).said y long (sym number_same ∙ sym is ∙ zero_number)
+              read_written ended t read.said y long (sym number_same ∙ sym is ∙ zero_number)
               (put.bytes ∙ ap (λ (l : List ℕ). front_of l x) same) (put.size ∙ ap length same)
 
 -- ---- one case applies to each text

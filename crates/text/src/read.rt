@@ -91,14 +91,13 @@ pub fn read_text(text: &[u8], out: &mut [u8]) -> WriteAnswer
     }
     let mut nodes = no_nodes();
     let mut clauses = no_clauses();
-    let said = sheet(text, &mut nodes, &mut clauses);
+    let Some(said) = sheet(text, &mut nodes, &mut clauses) else {
+        return WriteAnswer::Refused(19);
+    };
     let s = said.signals;
     let m = said.names;
     let n = said.count;
     let c = said.many;
-    if !said.ok {
-        return WriteAnswer::Refused(19);
-    }
     let number = refusal(s, m, &nodes, n, &clauses, c, out.len());
     if number != 0 {
         return WriteAnswer::Refused(number);
