@@ -1,13 +1,10 @@
 -- Laws of reading clauses: parts one after another, the word of a type, and a clause put after the others.
 use Prim.Native.Nat.{ℕ, zero, suc, ◌+◌, ◌-◌, ◌≤◌, ◌<◌}
-use mathlib.Core.Bool.{Bool, true, false, true≢false}
+use mathlib.Core.Bool.{false}
 use mathlib.Core.List.{List, [], ◌∷◌, map}
-use mathlib.Core.Logic.{inl, inr}
-use mathlib.Core.Option.{none}
 use mathlib.Core.Path.{◌≡◌, refl, sym, ap, ap₂, ◌∙◌}
 use native.Mathlib.Omega.{arith}
 use lib.ListN.{length}
-use Rattle.semantics.proofs.Tests.{test}
 use Rattle.stored.specs.declared.StoredClause.{StoredClause}
 use Rattle.stored.specs.Clause.{parts_used}
 use Rattle.grammar.specs.Token.{Token, plain, signalled, named, number, outside, open_round, close_round, comma_sign}
@@ -16,17 +13,17 @@ use Rattle.grammar.specs.Reader.{State, failed, sign, a_clause, step, run, answe
 use Rattle.grammar.proofs.Said.{computing}
 use Rattle.grammar.proofs.Next.{open_sign}
 use Rattle.typed.specs.Meaning.{parts_of}
-use Rattle.typed.specs.Draft.{Draft, draft, last, put_part, put_parts, roots_of, part_mask, type_number, fields_of, ClauseFits, added, put_clause, Sketch, put_typed}
+use Rattle.typed.specs.Draft.{Draft, draft, last, put_part, put_parts, roots_of, part_mask, type_number, fields_of, added, put_clause, Sketch, put_typed}
 use Rattle.typed.proofs.Clauses.{mask_small}
 use Rattle.propositions.specs.declared.leaf.Leaf.{Leaf}
-use Rattle.propositions.specs.Lexemes.{is_word, word_from, WordRead}
-use Rattle.propositions.proofs.Leaves.{apart, word_leafs}
+use Rattle.propositions.specs.Lexemes.{is_word, awaited, word_from, WordComes}
+use Rattle.propositions.specs.Reads.{ahead, Comes, Stuck, Outside}
+use Rattle.propositions.proofs.Leaves.{apart, word_stuck}
 use Rattle.propositions.proofs.Steps.{comma_run, close_run}
+use Rattle.propositions.proofs.Went.{Went, went_none, went_leaf, went_on, fails_leaf, fails_on}
 use Rattle.text.specs.declared.part.GotPart.{GotPart}
 use Rattle.text.specs.declared.clause.GotParts.{GotParts}
-use Rattle.text.specs.declared.clause.GotClause.{GotClause}
-use Rattle.propositions.specs.Reads.{ahead, sign_of, Leafs, Ready}
-use Rattle.text.specs.Parts.{PartRead, the_parts, fields_from, PartsTook, PartsRead, LastNode, WithFirst, Drawn, LineReady, LineRead, has_clause}
+use Rattle.text.specs.Parts.{some_part, PartTook, the_parts, fields_from, PartsTook, LastNode, WithFirst, Drawn, LineTook, has_clause}
 
 -- ---- parts one after another
 -- a part's root, where there are at most 64 nodes
@@ -66,152 +63,119 @@ fields_bare : (type role : ℕ) → bare type role ≡ fields_from type role [] 
 unfolding fields_from
 fields_bare type role = refl
 
-module _ {room type role : ℕ} {text : List ℕ} {ok : Bool} {at : ℕ} {x : List ℕ} {count : ℕ} where
+-- no first part
+pub parts_none : {room : ℕ} {text : List ℕ} {at : ℕ} (n : ℕ) → Outside some_part room text at → Outside (the_parts n) room text at
+unfolding the_parts
+parts_none zero out = record { fails = λ s. out.fails (close_round, λ d. s (d ∷ [])) }
+parts_none (suc n) out = record { fails = λ s. out.fails (comma_sign, λ d. the_parts n (λ ds. s (d ∷ ds))) }
+
+module _ {room type role : ℕ} {text : List ℕ} {at : ℕ} {x : List ℕ} {count : ℕ} where
   -- a part alone
-  pub one_read : {n : ℕ} {y : List ℕ} {p : GotPart} {r : GotParts} → n ≡ 0 → type < 256 → role < 256 → PartRead room text ok at x count y p
-      → WithFirst p (record { ok = p.ok; at = p.at; count = p.count; fields = bare type role }) r
-      → PartsRead n room type role text ok at x count y r
+  pub one_took : {n : ℕ} {y : List ℕ} {p : GotPart} {r : GotParts} → n ≡ 0 → type < 256 → role < 256 → PartTook room text at x count y p
+      → WithFirst p (record { at = p.at; count = p.count; fields = bare type role }) r
+      → PartsTook n room type role text at x count y r
   unfolding the_parts put_parts roots_of
-  one_read {y = y} {p = p} alone h₁ h₂ read with =
+  one_took {y = y} {p = p} alone h₁ h₂ d with =
       let root = with.root in
       let is = with.last_node in
+      let small = is.fits in
       rw (alone, with.is)
       (record {
-        well = read.well;
-        took = λ good.
-            let d = read.took good in
-            let small = is.fits in
+        trees = d.tree ∷ [];
+        as_many = refl;
+        goes = λ s. d.goes close_round (λ d. s (d ∷ []));
+        drafted = d.drafted;
+        fields = λ few.
+            ap₂ (λ (root mask : ℕ). shifted root mask (bare type role))
+            (root_is count x y d.tree p.count root d.drafted is few) d.mask
+            ∙ ap (shifted (last (put_part d.tree (draft x count))) (part_mask d.tree)) (fields_bare type role)
+            ∙ fields_shifted type role (last (put_part d.tree (draft x count))) (part_mask d.tree) [] [];
+        fits =
             record {
-              trees = d.tree ∷ [];
-              as_many = refl;
-              goes = λ s. d.goes close_round (λ d. s (d ∷ []));
-              drafted = d.drafted;
-              fields = λ few.
-                  ap₂ (λ (root mask : ℕ). shifted root mask (bare type role))
-                  (root_is count x y d.tree p.count root d.drafted is few) d.mask
-                  ∙ ap (shifted (last (put_part d.tree (draft x count))) (part_mask d.tree)) (fields_bare type role)
-                  ∙ fields_shifted type role (last (put_part d.tree (draft x count))) (part_mask d.tree) [] [];
-              fits =
-                  record {
-                    type_fits = h₁;
-                    role_fits = h₂;
-                    root1_fits = omega arith;
-                    root2_fits = omega arith;
-                    root3_fits = omega arith;
-                    mask1_fits = mask_fits d.tree p.mask d.mask;
-                    mask2_fits = omega arith;
-                    mask3_fits = omega arith;
-                  };
-              onward = d.onward;
-              within = d.within;
-              more = d.more;
-              taken = d.taken;
+              type_fits = h₁;
+              role_fits = h₂;
+              root1_fits = omega arith;
+              root2_fits = omega arith;
+              root3_fits = omega arith;
+              mask1_fits = mask_fits d.tree p.mask d.mask;
+              mask2_fits = omega arith;
+              mask3_fits = omega arith;
             };
-        fails = λ good bad s. read.fails good bad close_round (λ d. s (d ∷ []));
+        onward = d.onward;
+        within = d.within;
+        more = d.more;
+        taken = d.taken;
       })
 
-  -- a part, a comma and the others
-  module _ {n : ℕ} {w y : List ℕ} {p : GotPart} {comma : Leaf} {q : GotParts} (read : PartRead room text ok at x count w p)
-      (comma-read : Leafs (sign_of comma_sign) (sign comma_sign) text p.ok p.at comma)
-      (others : PartsRead n room type role text comma.ok comma.at w p.count y q) where
-    -- what comes after the first part d
+-- a part, a comma and the others
+module _ {room : ℕ} {text : List ℕ} {at : ℕ} {x : List ℕ} {count : ℕ} where
+  module _ {m n : ℕ} (one : m ≡ suc n) {w : List ℕ} {p : GotPart} (d : PartTook room text at x count w p) where
+    -- what comes after the first part e
     next : (List TypedPart → State) → TypedPart → State
-    next s d = the_parts n (λ ds. s (d ∷ ds))
+    next s e = the_parts n (λ ds. s (e ∷ ds))
 
-    to_comma : (good : p.ok ≡ true) (s : List TypedPart → State)
-        → answer (run room (the_parts (suc n) s) (ahead text at))
-        ≡ answer (run room (sign comma_sign (next s (read.took good).tree)) (ahead text p.at))
+    to_comma : Went (the_parts (suc n)) room text at room p.at (λ s. sign comma_sign (next s d.tree))
     unfolding the_parts next
-    to_comma good s = (read.took good).goes comma_sign (next s)
+    to_comma =
+        record { goes = λ s. d.goes comma_sign (next s); onward = (let h = d.onward in omega arith); within = d.within }
 
-    to_others : (good : p.ok ≡ true) → comma.ok ≡ true → (s : List TypedPart → State)
-        → answer (run room (the_parts (suc n) s) (ahead text at)) ≡ answer (run room (next s (read.took good).tree) (ahead text comma.at))
-    to_others good also s =
-        to_comma good s
-        ∙ ap (λ (ts : List Token). answer (run room (sign comma_sign (next s (read.took good).tree)) ts)) (comma-read.next also)
-        ∙ ap answer (comma_run room (next s (read.took good).tree) (ahead text comma.at))
+    pub no_comma : Stuck (sign comma_sign) text p.at → Outside (the_parts m) room text at
+    no_comma never = rw one (fails_leaf (λ s. next s d.tree) to_comma never)
 
-    more_fails : ok ≡ true → q.ok ≡ false → (s : List TypedPart → State) → answer (run room (the_parts (suc n) s) (ahead text at)) ≡ none
-    unfolding next the_parts
-    more_fails all final s =
-        elim (test p.ok) [
-          | inr bad ↦ read.fails all bad comma_sign (next s)
-          | inl good ↦ elim (test comma.ok) [
-            | inr bad ↦ to_comma good s ∙ comma-read.fails good bad room (next s (read.took good).tree)
-            | inl also ↦ to_others good also s ∙ others.fails also final (λ ds. s ((read.took good).tree ∷ ds))
-          ]
-        ]
+    module _ {comma : ℕ} (joins : Comes (plain comma_sign) text p.at comma) where
+      to_others : Went (the_parts (suc n)) room text at room comma (λ s. next s d.tree)
+      to_others = went_leaf room (λ s. next s d.tree) to_comma joins (λ s ts. comma_run room (next s d.tree) ts)
 
-    more_took : (root : ℕ) → LastNode p.count root → q.ok ≡ true
-        → PartsTook (suc n) room type role text at x count y
-        (record { ok = q.ok; at = q.at; count = q.count; fields = shifted root p.mask q.fields })
-    unfolding next put_parts roots_of
-    more_took root is final =
-        let also = others.well final in
-        let good = comma-read.well also in
-        let d = read.took good in
-        let ds = others.took final in
-        let h₁ = d.onward in
-        let h₂ = comma-read.onward also in
-        let h₃ = ds.onward in
-        let h₄ = d.taken in
-        let h₅ = ds.taken in
-        let h₆ = d.more in
-        let h₇ = ds.more in
-        let h₈ = is.fits in
-        let fit = ds.fits in
-        record {
-          trees = d.tree ∷ ds.trees;
-          as_many = ap suc ds.as_many;
-          goes = λ s. to_others good also s ∙ ds.goes (λ es. s (d.tree ∷ es));
-          drafted = ds.drafted ∙ ap (put_parts ds.trees) d.drafted;
-          fields = λ few.
-              ap₂ (λ (root mask : ℕ). shifted root mask q.fields)
-              (root_is count x w d.tree p.count root d.drafted is (omega arith)) d.mask
-              ∙ ap (shifted (last (put_part d.tree (draft x count))) (part_mask d.tree))
-              (ds.fields few ∙ ap (λ (e : Draft). fields_from type role (roots_of ds.trees e) (map part_mask ds.trees)) d.drafted)
-              ∙ fields_shifted type role (last (put_part d.tree (draft x count))) (part_mask d.tree)
-              (roots_of ds.trees (put_part d.tree (draft x count))) (map part_mask ds.trees);
-          fits =
-              record {
-                type_fits = fit.type_fits;
-                role_fits = fit.role_fits;
-                root1_fits = omega arith;
-                root2_fits = fit.root1_fits;
-                root3_fits = fit.root2_fits;
-                mask1_fits = mask_fits d.tree p.mask d.mask;
-                mask2_fits = fit.mask1_fits;
-                mask3_fits = fit.mask2_fits;
-              };
-          onward = omega arith;
-          within = ds.within;
-          more = omega arith;
-          taken = omega arith;
-        }
+      pub no_others : Outside (the_parts n) room text comma → Outside (the_parts m) room text at
+      unfolding next
+      no_others out = rw one (fails_on (λ s ds. s (d.tree ∷ ds)) to_others out)
 
-    pub more_read : {m : ℕ} {r : GotParts} → m ≡ suc n → WithFirst p q r → PartsRead m room type role text ok at x count y r
-    more_read one first =
-        rw (one, first.is)
-        (record {
-          well = λ final. read.well (comma-read.well (others.well final));
-          took = more_took first.root first.last_node;
-          fails = more_fails;
-        })
+      module _ {type role : ℕ} {y : List ℕ} {q : GotParts} (ds : PartsTook n room type role text comma w p.count y q) where
+        shifted_took : (root : ℕ) → LastNode p.count root
+            → PartsTook (suc n) room type role text at x count y
+            (record { at = q.at; count = q.count; fields = shifted root p.mask q.fields })
+        unfolding next put_parts roots_of
+        shifted_took root is =
+            let h₁ = d.onward in
+            let h₂ = joins.onward in
+            let h₃ = ds.onward in
+            let h₄ = d.taken in
+            let h₅ = ds.taken in
+            let h₆ = d.more in
+            let h₇ = ds.more in
+            let h₈ = is.fits in
+            let fit = ds.fits in
+            record {
+              trees = d.tree ∷ ds.trees;
+              as_many = ap suc ds.as_many;
+              goes = λ s. to_others.goes s ∙ ds.goes (λ es. s (d.tree ∷ es));
+              drafted = ds.drafted ∙ ap (put_parts ds.trees) d.drafted;
+              fields = λ few.
+                  ap₂ (λ (root mask : ℕ). shifted root mask q.fields)
+                  (root_is count x w d.tree p.count root d.drafted is (omega arith)) d.mask
+                  ∙ ap (shifted (last (put_part d.tree (draft x count))) (part_mask d.tree))
+                  (ds.fields few ∙ ap (λ (e : Draft). fields_from type role (roots_of ds.trees e) (map part_mask ds.trees)) d.drafted)
+                  ∙ fields_shifted type role (last (put_part d.tree (draft x count))) (part_mask d.tree)
+                  (roots_of ds.trees (put_part d.tree (draft x count))) (map part_mask ds.trees);
+              fits =
+                  record {
+                    type_fits = fit.type_fits;
+                    role_fits = fit.role_fits;
+                    root1_fits = omega arith;
+                    root2_fits = fit.root1_fits;
+                    root3_fits = fit.root2_fits;
+                    mask1_fits = mask_fits d.tree p.mask d.mask;
+                    mask2_fits = fit.mask1_fits;
+                    mask3_fits = fit.mask2_fits;
+                  };
+              onward = omega arith;
+              within = ds.within;
+              more = omega arith;
+              taken = omega arith;
+            }
 
--- where the next part may be read
-pub next_ready : {room : ℕ} {text : List ℕ} {at : ℕ} {x : List ℕ} {count : ℕ} {y : List ℕ} {ok : Bool} {p : GotPart} {comma : Leaf}
-    → (ok ≡ true → Ready text at x count) → PartRead room text ok at x count y p
-    → Leafs (sign_of comma_sign) (sign comma_sign) text p.ok p.at comma → length y ≡ length x
-    → comma.ok ≡ true → Ready text comma.at y p.count
-next_ready ready read comma-read same also =
-    let good = comma-read.well also in
-    let d = read.took good in
-    let was = ready (read.well good) in
-    let h₁ = was.area in
-    let h₂ = was.taken in
-    let h₃ = d.taken in
-    let h₄ = comma-read.onward also in
-    record { area = same ∙ h₁; inside = comma-read.within also; taken = omega arith }
+        pub more_took : {r : GotParts} → WithFirst p q r → PartsTook m room type role text at x count y r
+        more_took first = rw (one, first.is) (shifted_took first.root first.last_node)
 
 -- as many parts as the type uses
 pub used-some : (v : ℕ) → v ≤ 5 → 1 ≤ parts_used (v + 1)
@@ -331,138 +295,6 @@ clause_drawn role c x count u many y v r next drafted fields more put one z draw
       counted = one ∙ ap suc drawn.counted ∙ sym (one_more (fields_of role c z.nodes) z.clauses);
     }
 
--- where the parts may be read
-pub parts_ready : {text : List ℕ} {ok : Bool} {at : ℕ} {x : List ℕ} {count : ℕ} {u : List ℕ} {many : ℕ} {word bracket : Leaf}
-    → LineReady text ok at x count u many → Leafs (word_from 3) a_clause text ok at word
-    → Leafs (sign_of open_round) (sign open_round) text word.ok word.at bracket
-    → bracket.ok ≡ true → Ready text bracket.at x count
-parts_ready ready word_read open-read also =
-    let good = open-read.well also in
-    let all = word_read.well good in
-    let h₁ = word_read.onward good in
-    let h₂ = open-read.onward also in
-    let h₃ = ready.nodes_taken all in
-    record { area = ready.nodes_area; inside = open-read.within also; taken = omega arith }
-
--- the type's word, an opening bracket, the parts and a closing bracket
-module _ {role : ℕ} {text : List ℕ} {ok : Bool} {at : ℕ} {x : List ℕ} {count : ℕ} {y : List ℕ} {word bracket : Leaf} {q : GotParts} {close : Leaf}
-    (word_read : Leafs (word_from 3) a_clause text ok at word) (known : word.value ≤ 5) {used : ℕ} (is-used : used ≡ parts_used (word.value + 1))
-    (open-read : Leafs (sign_of open_round) (sign open_round) text word.ok word.at bracket)
-    (read : PartsRead (used - 1) 31 (word.value + 1) role text bracket.ok bracket.at x count y q)
-    (closed : Leafs (sign_of close_round) (sign close_round) text q.ok q.at close) where
-  type : ℕ
-  type = word.value + 1
-
-  -- the parts and what comes after them
-  inside : (TypedClause → State) → State
-  inside k = the_parts (used - 1) (after_parts type k)
-
-  to_open : word.ok ≡ true → (k : TypedClause → State)
-      → answer (run 32 (a_clause k) (ahead text at)) ≡ answer (run 32 (sign open_round (inside k)) (ahead text word.at))
-  unfolding type inside
-  to_open good k =
-      ap (λ (ts : List Token). answer (run 32 (a_clause k) ts)) (word_read.next good)
-      ∙ ap answer
-      (type_read 32 word.value k (ahead text word.at) known
-      ∙ ap (λ used. run 32 (sign open_round (the_parts (used - 1) (after_parts type k))) (ahead text word.at)) (sym is-used))
-
-  to_parts : word.ok ≡ true → bracket.ok ≡ true → (k : TypedClause → State)
-      → answer (run 32 (a_clause k) (ahead text at)) ≡ answer (run 31 (inside k) (ahead text bracket.at))
-  to_parts good also k =
-      to_open good k
-      ∙ ap (λ (ts : List Token). answer (run 32 (sign open_round (inside k)) ts)) (open-read.next also)
-      ∙ ap answer (open_sign 31 (inside k) (ahead text bracket.at))
-
-  to_close : word.ok ≡ true → bracket.ok ≡ true → (done : q.ok ≡ true) (k : TypedClause → State)
-      → answer (run 32 (a_clause k) (ahead text at))
-      ≡ answer (run 31 (sign close_round (after_parts type k (read.took done).trees)) (ahead text q.at))
-  unfolding type inside
-  to_close good also done k = to_parts good also k ∙ (read.took done).goes (after_parts type k)
-
-  clause_fails : ok ≡ true → close.ok ≡ false → (k : TypedClause → State) → answer (run 32 (a_clause k) (ahead text at)) ≡ none
-  unfolding type inside
-  clause_fails all final k =
-      elim (test word.ok) [
-        | inr bad ↦ word_read.fails all bad 32 k
-        | inl good ↦ elim (test bracket.ok) [
-          | inr bad ↦ to_open good k ∙ open-read.fails good bad 32 (inside k)
-          | inl also ↦ elim (test q.ok) [
-            | inr bad ↦ to_parts good also k ∙ read.fails also bad (after_parts type k)
-            | inl done ↦ to_close good also done k ∙ closed.fails done final 31 (after_parts type k (read.took done).trees)
-          ]
-        ]
-      ]
-
-  pub clause_unread : {u : List ℕ} {many : ℕ} {v : List ℕ} {r : GotClause} → close.ok ≡ false → r.ok ≡ false
-      → LineRead a_clause has_clause (put_typed role) text ok at x count u many y v r
-  clause_unread final unread =
-      record {
-        well = λ good. absurd (true≢false (sym good ∙ unread));
-        took = λ good. absurd (true≢false (sym good ∙ unread));
-        fails = λ all _. clause_fails all final;
-      }
-
-  pub clause_fits_lem : close.ok ≡ true → ClauseFits q.fields
-  clause_fits_lem final = (read.took (closed.well final)).fits
-
-  pub clause_well : close.ok ≡ true → ok ≡ true
-  clause_well final = word_read.well (open-read.well (read.well (closed.well final)))
-
-  -- it took bytes of the text
-  pub clause_onward : close.ok ≡ true → (at < close.at) × (close.at ≤ length text)
-  clause_onward final =
-      let done = closed.well final in
-      let also = read.well done in
-      let good = open-read.well also in
-      let h₁ = word_read.onward good in
-      let h₂ = open-read.onward also in
-      let h₃ = (read.took done).onward in
-      let h₄ = closed.onward final in
-      (omega arith, closed.within final)
-
-  pub clause_read : {u : List ℕ} {many : ℕ} {v : List ℕ} {next : ℕ} → close.ok ≡ true
-      → draft v next ≡ put_clause q.fields (draft u many)
-      → LineRead a_clause has_clause (put_typed role) text ok at x count u many y v
-      (record { ok = true; at = close.at; count = q.count; many = next })
-  unfolding type
-  clause_read {u = u} {many = many} {v = v} {next = next} final put =
-      let done = closed.well final in
-      let also = read.well done in
-      let good = open-read.well also in
-      let ds = read.took done in
-      let f = formed type ds.trees (omega arith) (omega arith) (ds.as_many ∙ ap (λ used. suc (used - 1)) is-used) in
-      let h₁ = word_read.onward good in
-      let h₂ = open-read.onward also in
-      let h₃ = ds.taken in
-      let h₄ = closed.onward final in
-      let one = ap (λ (d : Draft). d.count) put ∙ one_more q.fields (draft u many) in
-      record {
-        well = λ _. word_read.well good;
-        took = λ _.
-            record {
-              tree = f.clause;
-              goes = λ k.
-                  to_close good also done k
-                  ∙ ap (λ (ts : List Token). answer (run 31 (sign close_round (after_parts type k ds.trees)) ts)) (closed.next final)
-                  ∙ ap answer (close_run 31 (after_parts type k ds.trees) (ahead text close.at))
-                  ∙ ap (λ (s : State). answer (run 32 s (ahead text close.at))) (f.state k);
-              drawn =
-                  clause_drawn role f.clause x count u many y v q next
-                  (ds.drafted ∙ ap (λ (es : List TypedPart). put_parts es (draft x count)) (sym f.parts))
-                  (λ few. ds.fields few
-                  ∙ ap₂ (λ (t : ℕ) (es : List TypedPart). fields_from t role (roots_of es (draft x count)) (map part_mask es)) (sym f.type)
-                  (sym f.parts)
-                  ∙ fields_of_lem role f.clause (draft x count))
-                  ds.more put one;
-              onward = (clause_onward final).0;
-              within = closed.within final;
-              more = ds.more;
-              taken = omega arith;
-              one = one;
-            };
-        fails = λ _ bad. absurd (true≢false bad);
-      }
-
 -- ---- the word of a type
 no_type : (k : TypedClause → State) (t : Token) → is_word 3 8 t ≡ false → step (a_clause k) t ≡ failed
 unfolding computing is_word
@@ -480,6 +312,74 @@ no_type k (named u) e = refl
 no_type k (number n) e = refl
 no_type k outside e = refl
 
-pub type_leafs : {text : List ℕ} {ok : Bool} {at : ℕ} {r : Leaf} → WordRead 3 8 text ok at r → Leafs (word_from 3) a_clause text ok at r
+pub type_none : {text : List ℕ} {at : ℕ} → Stuck (awaited {low = 3} {high = 8} {ts = ahead text at}) text at → Outside a_clause 32 text at
 unfolding computing
-type_leafs = word_leafs (word_from 3) a_clause (λ v h. refl) (λ _ k. refl) no_type
+type_none {text} {at} never = let none_left = word_stuck {text = text} {at = at} a_clause (λ _ k. refl) no_type never in record { fails = λ k. none_left.fails 32 k }
+
+-- ---- the type's word, an opening bracket, the parts and a closing bracket
+module _ {text : List ℕ} {at : ℕ} (start : at ≤ length text) {word : Leaf} (known : WordComes 3 8 text at word) where
+  -- the parts and what comes after them
+  inside : (TypedClause → State) → State
+  inside k = the_parts (parts_used (word.value + 1) - 1) (after_parts (word.value + 1) k)
+
+  to_open : Went a_clause 32 text at 32 word.at (λ k. sign open_round (inside k))
+  unfolding inside
+  to_open =
+      went_leaf 32 (λ k. sign open_round (inside k)) (went_none a_clause 32 text at start) known.comes
+      (λ k ts. type_read 32 word.value k ts known.range)
+
+  pub no_bracket : Stuck (sign open_round) text word.at → Outside a_clause 32 text at
+  no_bracket never = fails_leaf inside to_open never
+
+  module _ {bracket : ℕ} (opening : Comes (plain open_round) text word.at bracket) {used : ℕ} (is-used : used ≡ parts_used (word.value + 1)) where
+    to_parts : Went a_clause 32 text at 31 bracket (λ k. the_parts (used - 1) (after_parts (word.value + 1) k))
+    unfolding inside
+    to_parts = rw is-used (went_leaf 31 inside to_open opening (λ k ts. open_sign 31 (inside k) ts))
+
+    pub no_parts : Outside (the_parts (used - 1)) 31 text bracket → Outside a_clause 32 text at
+    no_parts out = fails_on (after_parts (word.value + 1)) to_parts out
+
+    module _ {role : ℕ} {x : List ℕ} {count : ℕ} {y : List ℕ} {q : GotParts}
+        (ds : PartsTook (used - 1) 31 (word.value + 1) role text bracket x count y q) where
+      to_close : Went a_clause 32 text at 31 q.at (λ k. sign close_round (after_parts (word.value + 1) k ds.trees))
+      to_close =
+          went_on (after_parts (word.value + 1)) to_parts
+          (record { goes = ds.goes; onward = (let h = ds.onward in omega arith); within = ds.within })
+
+      pub unclosed : Stuck (sign close_round) text q.at → Outside a_clause 32 text at
+      unclosed never = fails_leaf (λ k. after_parts (word.value + 1) k ds.trees) to_close never
+
+      pub clause_took : {u : List ℕ} {many : ℕ} {v : List ℕ} {next close : ℕ} → Comes (plain close_round) text q.at close
+          → draft v next ≡ put_clause q.fields (draft u many)
+          → LineTook a_clause has_clause (put_typed role) text (record { at = at; count = count; many = many }) x u y v
+          (record { at = close; count = q.count; many = next })
+      clause_took {u = u} {many = many} {v = v} {next = next} {close} closed put =
+          let type = word.value + 1 in
+          let range = known.range in
+          let f = formed type ds.trees (omega arith) (omega arith) (ds.as_many ∙ ap (λ used. suc (used - 1)) is-used) in
+          let to-end =
+          went_leaf 32 (λ k. after_parts type k ds.trees) to_close closed
+          (λ k ts. close_run 31 (after_parts type k ds.trees) ts) in
+          let h₁ = known.comes.onward in
+          let h₂ = opening.onward in
+          let h₃ = ds.taken in
+          let h₄ = closed.onward in
+          let h₅ = ds.onward in
+          let one = ap (λ (d : Draft). d.count) put ∙ one_more q.fields (draft u many) in
+          record {
+            tree = f.clause;
+            goes = λ k. to-end.goes k ∙ ap (λ (s : State). answer (run 32 s (ahead text close))) (f.state k);
+            drawn =
+                clause_drawn role f.clause x count u many y v q next
+                (ds.drafted ∙ ap (λ (es : List TypedPart). put_parts es (draft x count)) (sym f.parts))
+                (λ few. ds.fields few
+                ∙ ap₂ (λ (t : ℕ) (es : List TypedPart). fields_from t role (roots_of es (draft x count)) (map part_mask es)) (sym f.type)
+                (sym f.parts)
+                ∙ fields_of_lem role f.clause (draft x count))
+                ds.more put one;
+            onward = omega arith;
+            within = closed.within;
+            more = ds.more;
+            taken = omega arith;
+            one = one;
+          }

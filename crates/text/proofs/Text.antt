@@ -6,7 +6,7 @@ use mathlib.Core.Logic.{◌⊎◌, inl, inr}
 use mathlib.Core.Option.{Option, none, some}
 use mathlib.Core.Path.{◌≡◌, refl, sym, ap, ap₂, ◌∙◌}
 use native.Mathlib.Omega.{arith}
-use borrow.Author.Tests.{eqb-true, eqb-false, eq-eqb, ne_eqb, ltb-false, lt-ltb, le-ltb}
+use borrow.Author.Tests.{eqb-true, eqb-false, eq-eqb, ltb-false, lt-ltb, le-ltb}
 use lib.Dec.{eqb, ltb}
 use lib.ListN.{length, take, drop, replicate, length-append, length-drop}
 use lib.Seq.{drop_at}
@@ -19,7 +19,7 @@ use Rattle.stored.specs.declared.Header.{Header}
 use Rattle.stored.specs.declared.refusal.Refusal.{Refusal}
 use Rattle.stored.specs.declared.refusal.Refusal.TheVariants.{ShortOutput, TooDeep, OutsideGrammar, TooLarge}
 use Rattle.stored.specs.Refusal.{number_of, last_number, refusals, refusal_numbered, answered}
-use Rattle.stored.proofs.Refusals.{refusal_applies, number_some, number_most, numbered_number, answered_value, answered_refusal, of_value, of_refusal}
+use Rattle.stored.proofs.Refusals.{refusal_applies, number_some, numbered_number, answered_value, answered_refusal, of_value, of_refusal}
 use Rattle.stored.specs.Layout.{clauses_end, least_output, most_nodes, most_clauses}
 use Rattle.stored.specs.Sheet.{nodes_of, clauses_of, requirement_of, sheet_refusal, sheet_answer}
 use Rattle.stored.specs.Clause.{part_of}
@@ -37,7 +37,7 @@ use Rattle.typed.specs.Draft.{Draft, draft, empty, sketch_of, too_many, sheet_by
 use Rattle.typed.proofs.Writing.{front_taken}
 use Rattle.typed.proofs.Sheet.{typed_clauses, typed_requirement, typed_verdict}
 use Rattle.text.specs.declared.sheet.GotSheet.{GotSheet}
-use Rattle.text.specs.Parts.{Drawn, SheetRead, draft_refusal}
+use Rattle.text.specs.Parts.{Drawn, SheetTook, draft_refusal}
 use Rattle.text.specs.Text.{said_refusal, RefusedBy, WrittenAs, ReadText}
 
 -- the sheet that was put together at the front of y
@@ -217,34 +217,34 @@ module _ (text x : List ℕ) where
                 };
           }
 
+    pub unread_outside : parse 32 (tokens text) ≡ none → ReadText text x x (Err OutsideGrammar)
+    unread_outside bad = outside_grammar (outside_unread text shallow bad)
+
     -- what the code read into the areas, which were empty
     module _ (a b nodes clauses : List ℕ) (r : GotSheet) (a-empty : a ≡ replicate 384 0) (b-empty : b ≡ replicate 88 0)
-        (read : SheetRead text a b nodes clauses r) where
-      pub unread_outside : r.ok ≡ false → ReadText text x x (Err OutsideGrammar)
-      unread_outside bad = outside_grammar (outside_unread text shallow (read.fails bad))
-
-      module _ (ends : Bool) (e₂ : ends ≡ ends_line text) (h₂ : ends ≡ true) (good : r.ok ≡ true) where
+        (read : SheetTook text a b nodes clauses r) where
+      module _ (ends : Bool) (e₂ : ends ≡ ends_line text) (h₂ : ends ≡ true) where
         ended : ends_line text ≡ true
         ended = sym e₂ ∙ h₂
 
         t : TypedSheet
-        t = (read.took good).tree
+        t = read.tree
 
         drawn : Drawn (sketch_of t) nodes r.count clauses r.many
         unfolding t sketch_of
-        drawn = (read.took good).drawn empty (rw (a-empty, b-empty) drawn_empty)
+        drawn = read.drawn empty (rw (a-empty, b-empty) drawn_empty)
 
         number_same : draft_refusal r.signals r.names (draft nodes r.count) (draft clauses r.many) (length x) ≡ said_refusal t (length x)
         unfolding t
         number_same =
             ap₂ (λ (s m : ℕ). draft_refusal s m (draft nodes r.count) (draft clauses r.many) (length x))
-            (read.took good).signals_said (read.took good).names_said
+            read.signals_said read.names_said
             ∙ refusal_same t nodes r.count clauses r.many drawn (length x)
 
         pub read_judged : (e : Refusal) → answered {A = Unit {0}} (draft_refusal r.signals r.names (draft nodes r.count) (draft clauses r.many) (length x)) tt ≡ Err e → ReadText text x x (Err e)
         unfolding t
         read_judged e is =
-            read_refused ended t (read.took good).said e
+            read_refused ended t read.said e
             (of_refusal _ tt e (draft_small r.signals r.names (draft nodes r.count) (draft clauses r.many) (length x)) is ∙ number_same)
 
         pub read_whole : (y : List ℕ) (long : ℕ) → answered {A = Unit {0}} (draft_refusal r.signals r.names (draft nodes r.count) (draft clauses r.many) (length x)) tt ≡ Ok tt
@@ -256,10 +256,10 @@ module _ (text x : List ℕ) where
             let free = nothing_refused r.signals r.names nodes r.count clauses r.many (length x) none in
             let same =
             ap₂ (λ (s m : ℕ). sheet_bytes s m (draft nodes r.count) (draft clauses r.many))
-            (read.took good).signals_said (read.took good).names_said
+            read.signals_said read.names_said
             ∙ bytes_same t nodes r.count clauses r.many drawn (length x) free.few_nodes
             in
-            read_written ended t (read.took good).said y long (sym number_same ∙ none)
+            read_written ended t read.said y long (sym number_same ∙ none)
             (put.bytes ∙ ap (λ (l : List ℕ). front_of l x) same) (put.size ∙ ap length same)
 
 -- ---- one case applies to each text

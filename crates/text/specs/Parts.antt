@@ -1,5 +1,5 @@
 -- What the readers of parts, clauses and lines promise one another, in the terms of the grammar's reader; nobody need believe it.
-use Rattle.std.specs.Prelude.{ℕ, zero, suc, ◌+◌, ◌-◌, ◌≤◌, ◌<◌, ◌*◌, Bool, true, false, cond, ◌||◌, List, [], ◌∷◌, ◌++◌, map, ◌≡◌, eqb, ltb, length, get_or}
+use Rattle.std.specs.Prelude.{ℕ, zero, suc, ◌+◌, ◌-◌, ◌≤◌, ◌<◌, ◌*◌, Bool, true, false, cond, ◌||◌, List, [], ◌∷◌, ◌++◌, map, ◌≡◌, eqb, ltb, length, get_or, Option, MatchOption}
 use Rattle.std.proofs.Math.Option.{none, some}
 use Rattle.stored.specs.declared.StoredClause.{StoredClause}
 use Rattle.stored.specs.Layout.{least_output, most_nodes, most_clauses, node_size, clause_size}
@@ -11,10 +11,9 @@ use Rattle.typed.specs.Draft.{Draft, draft, Sketch, put_part, put_parts, roots_o
 use Rattle.propositions.specs.declared.leaf.Leaf.{Leaf}
 use Rattle.text.specs.declared.part.GotPart.{GotPart}
 use Rattle.text.specs.declared.clause.GotParts.{GotParts}
-use Rattle.text.specs.declared.clause.GotClause.{GotClause}
-use Rattle.text.specs.declared.sheet.GotLines.{GotLines}
+use Rattle.text.specs.declared.clause.Drafted.{Drafted}
 use Rattle.text.specs.declared.sheet.GotSheet.{GotSheet}
-use Rattle.propositions.specs.Reads.{ahead}
+use Rattle.propositions.specs.Reads.{ahead, Outside}
 
 -- no token is left
 unfoldable pub finished : List Token → Bool
@@ -45,11 +44,13 @@ pub record NamesTook (text : List ℕ) (at : ℕ) (r : Leaf) : Type 0 where
   pub onward : at ≤ r.at
   pub within : at ≤ length text → r.at ≤ length text
 
--- names up to the first other token; not ok where one stands twice, and where not all went well before
-pub record NamesRead (text : List ℕ) (ok : Bool) (at : ℕ) (r : Leaf) : Type 0 where
-  pub well : r.ok ≡ true → ok ≡ true
-  pub took : r.ok ≡ true → NamesTook text at r
-  pub fails : ok ≡ true → r.ok ≡ false → (room n : ℕ) (s : List ℕ → State) → answer (run room (some_names n s []) (ahead text at)) ≡ none
+-- one of the names that come next stands twice
+pub record NamesTwice (text : List ℕ) (at : ℕ) : Type 0 where
+  pub fails : (room n : ℕ) (s : List ℕ → State) → answer (run room (some_names n s []) (ahead text at)) ≡ none
+
+-- names up to the first other token, unless one stands twice
+abbrev pub NamesRead : List ℕ → ℕ → Option Leaf → Type 0
+NamesRead text at r = MatchOption r (NamesTwice text at) (NamesTook text at)
 
 pub record PartTook (room : ℕ) (text : List ℕ) (at : ℕ) (x : List ℕ) (count : ℕ) (y : List ℕ) (r : GotPart) : Type 0 where
   pub tree : TypedPart
@@ -62,10 +63,12 @@ pub record PartTook (room : ℕ) (text : List ℕ) (at : ℕ) (x : List ℕ) (co
   pub more : count < r.count
   pub taken : r.count + at ≤ count + r.at
 
-pub record PartRead (room : ℕ) (text : List ℕ) (ok : Bool) (at : ℕ) (x : List ℕ) (count : ℕ) (y : List ℕ) (r : GotPart) : Type 0 where
-  pub well : r.ok ≡ true → ok ≡ true
-  pub took : r.ok ≡ true → PartTook room text at x count y r
-  pub fails : ok ≡ true → r.ok ≡ false → (n : ℕ) (s : TypedPart → State) → answer (run room (a_part n s) (ahead text at)) ≡ none
+-- a part and the sign after it
+abbrev pub some_part : ℕ × (TypedPart → State) → State
+some_part w = a_part w.0 w.1
+
+abbrev pub PartRead : ℕ → List ℕ → ℕ → List ℕ → ℕ → List ℕ → Option GotPart → Type 0
+PartRead room text at x count y r = MatchOption r (Outside some_part room text at) (PartTook room text at x count y)
 
 -- so many parts and one more, with commas between them and a closing bracket after them
 unfoldable pub the_parts : ℕ → (List TypedPart → State) → State
@@ -100,10 +103,9 @@ pub record PartsTook (n room type role : ℕ) (text : List ℕ) (at : ℕ) (x : 
   pub more : count < r.count
   pub taken : r.count + at ≤ count + r.at
 
-pub record PartsRead (n room type role : ℕ) (text : List ℕ) (ok : Bool) (at : ℕ) (x : List ℕ) (count : ℕ) (y : List ℕ) (r : GotParts) : Type 0 where
-  pub well : r.ok ≡ true → ok ≡ true
-  pub took : r.ok ≡ true → PartsTook n room type role text at x count y r
-  pub fails : ok ≡ true → r.ok ≡ false → (s : List TypedPart → State) → answer (run room (the_parts n s) (ahead text at)) ≡ none
+abbrev pub PartsRead : ℕ → ℕ → ℕ → ℕ → List ℕ → ℕ → List ℕ → ℕ → List ℕ → Option GotParts → Type 0
+PartsRead n room type role text at x count y r =
+    MatchOption r (Outside (the_parts n) room text at) (PartsTook n room type role text at x count y)
 
 -- The last of so many nodes, where there are at most 64; at any rate a number that fits.
 pub record LastNode (count r : ℕ) : Type 0 where
@@ -116,7 +118,6 @@ pub record WithFirst (first : GotPart) (rest r : GotParts) : Type 0 where
   pub last_node : LastNode first.count root
   pub is : r
       ≡ record {
-        ok = rest.ok;
         at = rest.at;
         count = rest.count;
         fields =
@@ -139,33 +140,33 @@ pub record Drawn (z : Sketch) (nodes : List ℕ) (count : ℕ) (clauses : List �
   pub clauses_drawn : count ≤ most_nodes → draft clauses many ≡ z.clauses
   pub counted : many ≡ z.clauses.count
 
+-- the place before all lines, of which nothing is read
+abbrev pub nothing : ℕ → Drafted
+nothing at = record { at = at; count = 0; many = 0 }
+
 -- where a clause or line may be read: two areas, and each node and clause so far took a byte of the text
-pub record LineReady (text : List ℕ) (ok : Bool) (at : ℕ) (nodes : List ℕ) (count : ℕ) (clauses : List ℕ) (many : ℕ) : Type 0 where
+pub record LineReady (text : List ℕ) (from : Drafted) (nodes clauses : List ℕ) : Type 0 where
   pub nodes_area : length nodes ≡ node_size * most_nodes
   pub clauses_area : length clauses ≡ clause_size * most_clauses
-  pub inside : ok ≡ true → at ≤ length text
-  pub nodes_taken : ok ≡ true → count ≤ at
-  pub clauses_taken : ok ≡ true → many ≤ at
+  pub inside : from.at ≤ length text
+  pub nodes_taken : from.count ≤ from.at
+  pub clauses_taken : from.many ≤ from.at
 
--- From `at` up to r's place the text says a tree. Its nodes and clause are in the areas now, which were x and u and are y and v.
+-- From one place up to r's the text says a tree. Its nodes and clause are in the areas now, which were x and u and are y and v.
 pub record LineTook {K T : Type 0} (about : K → State) (has : K → T → State)
-    (put : T → Sketch → Sketch) (text : List ℕ) (at : ℕ) (x : List ℕ) (count : ℕ) (u : List ℕ) (many : ℕ) (y v : List ℕ)
-    (r : GotClause) : Type 0 where
+    (put : T → Sketch → Sketch) (text : List ℕ) (from : Drafted) (x u y v : List ℕ) (r : Drafted) : Type 0 where
   pub tree : T
-  pub goes : (k : K) → answer (run 32 (about k) (ahead text at)) ≡ answer (run 32 (has k tree) (ahead text r.at))
-  pub drawn : (z : Sketch) → Drawn z x count u many → Drawn (put tree z) y r.count v r.many
-  pub onward : at < r.at
+  pub goes : (k : K) → answer (run 32 (about k) (ahead text from.at)) ≡ answer (run 32 (has k tree) (ahead text r.at))
+  pub drawn : (z : Sketch) → Drawn z x from.count u from.many → Drawn (put tree z) y r.count v r.many
+  pub onward : from.at < r.at
   pub within : r.at ≤ length text
-  pub more : count < r.count
-  pub taken : r.count + at ≤ count + r.at
-  pub one : r.many ≡ suc many
+  pub more : from.count < r.count
+  pub taken : r.count + from.at ≤ from.count + r.at
+  pub one : r.many ≡ suc from.many
 
-pub record LineRead {K T : Type 0} (about : K → State) (has : K → T → State)
-    (put : T → Sketch → Sketch) (text : List ℕ) (ok : Bool) (at : ℕ) (x : List ℕ) (count : ℕ) (u : List ℕ) (many : ℕ) (y v : List ℕ)
-    (r : GotClause) : Type 0 where
-  pub well : r.ok ≡ true → ok ≡ true
-  pub took : r.ok ≡ true → LineTook about has put text at x count u many y v r
-  pub fails : ok ≡ true → r.ok ≡ false → (k : K) → answer (run 32 (about k) (ahead text at)) ≡ none
+abbrev pub LineRead : {K T : Type 0} → (K → State) → (K → T → State) → (T → Sketch → Sketch) → List ℕ → Drafted → List ℕ → List ℕ
+    → List ℕ → List ℕ → Option Drafted → Type 0
+LineRead about has put text from x u y v r = MatchOption r (Outside about 32 text from.at) (LineTook about has put text from x u y v)
 
 abbrev pub has_clause : (TypedClause → State) → TypedClause → State
 has_clause k c = k c
@@ -173,16 +174,18 @@ has_clause k c = k c
 abbrev pub has_line : Before → Line → State
 has_line b l = at_line b.signals b.names (b.lines ++ l ∷ [])
 
-pub record LinesTook (text : List ℕ) (at : ℕ) (x u y v : List ℕ) (r : GotLines) : Type 0 where
+-- about to read all lines, after the two numbers
+abbrev pub all_lines : ℕ × ℕ → State
+all_lines w = at_line w.0 w.1 []
+
+pub record LinesTook (text : List ℕ) (at : ℕ) (x u y v : List ℕ) (r : Drafted) : Type 0 where
   pub lines : List Line
   pub goes : (s m : ℕ) → answer (run 32 (at_line s m []) (ahead text at)) ≡ some (record { signals = s; names = m; lines = lines })
   pub drawn : (z : Sketch) → Drawn z x 0 u 0 → Drawn (put_lines lines z) y r.count v r.many
 
 -- all lines after the first, to the end of the text
-pub record LinesRead (text : List ℕ) (ok : Bool) (at : ℕ) (x u y v : List ℕ) (r : GotLines) : Type 0 where
-  pub well : r.ok ≡ true → ok ≡ true
-  pub took : r.ok ≡ true → LinesTook text at x u y v r
-  pub fails : ok ≡ true → r.ok ≡ false → (s m : ℕ) → answer (run 32 (at_line s m []) (ahead text at)) ≡ none
+abbrev pub LinesRead : List ℕ → ℕ → List ℕ → List ℕ → List ℕ → List ℕ → Option Drafted → Type 0
+LinesRead text at x u y v r = MatchOption r (Outside all_lines 32 text at) (LinesTook text at x u y v)
 
 pub record SheetTook (text x u y v : List ℕ) (r : GotSheet) : Type 0 where
   pub tree : TypedSheet
@@ -192,9 +195,8 @@ pub record SheetTook (text x u y v : List ℕ) (r : GotSheet) : Type 0 where
   pub names_said : r.names ≡ tree.names
 
 -- the whole text
-pub record SheetRead (text x u y v : List ℕ) (r : GotSheet) : Type 0 where
-  pub took : r.ok ≡ true → SheetTook text x u y v r
-  pub fails : r.ok ≡ false → parse 32 (tokens text) ≡ none
+abbrev pub SheetRead : List ℕ → List ℕ → List ℕ → List ℕ → List ℕ → Option GotSheet → Type 0
+SheetRead text x u y v r = MatchOption r (parse 32 (tokens text) ≡ none) (SheetTook text x u y v)
 
 -- ---- the sheet put together from the areas: 20, the lowest of 1 to 9, 14 where so many bytes are lent, or 0
 unfoldable pub draft_refusal : ℕ → ℕ → Draft → Draft → ℕ → ℕ

@@ -1,5 +1,5 @@
 // A clause: its type's word and its parts in round brackets.
-ghost use Rattle.std.specs.Prelude.{true, ◌≡◌, ◌<◌};
+ghost use Rattle.std.specs.Prelude.{◌<◌};
 ghost use Rattle.grammar.specs.Reader.{a_clause};
 ghost use Rattle.typed.specs.Draft.{put_typed};
 ghost use Rattle.propositions.specs.Reads.{Ready};
@@ -13,19 +13,17 @@ use stored::clauses::parts_used;
 use stored::layout::MOST_NODES;
 use typed::draft;
 
-// Whether parts were read, the place after them, how many nodes there are with theirs, and the fields of a clause of these parts.
+// The place after parts that were read, how many nodes there are with theirs, and the fields of a clause of these parts.
 #[derive(Drop)]
 pub struct GotParts {
-    pub ok: bool,
     pub at: usize,
     pub count: usize,
     pub fields: StoredClause,
 }
 
-// Whether a clause or line was read, the place after it, and how many nodes and clauses there are with its own.
-#[derive(Drop)]
-pub struct GotClause {
-    pub ok: bool,
+// A place of the text, and how many nodes and clauses there are of what was read up to it.
+#[derive(Clone, Copy)]
+pub struct Drafted {
     pub at: usize,
     pub count: usize,
     pub many: usize,
@@ -35,13 +33,10 @@ pub struct GotClause {
 fn last_node(count: usize) -> usize
     ensures { LastNode count result }
 {
-    if count == 0 {
-        return 0;
+    match count {
+        1..=MOST_NODES => count - 1,
+        _ => 0,
     }
-    if MOST_NODES < count {
-        return 0;
-    }
-    count - 1
 }
 
 // The fields of a clause of this part and then those of `rest`, of which there are two at most.
@@ -50,38 +45,31 @@ fn with_first(first: GotPart, rest: GotParts) -> GotParts
 {
     let others = rest.fields;
     let fields = StoredClause {
-        clause_type: others.clause_type,
-        role: others.role,
         root1: last_node(first.count),
         root2: others.root1,
         root3: others.root2,
         mask1: first.mask,
         mask2: others.mask1,
         mask3: others.mask2,
+        ..others
     };
-    GotParts {
-        ok: rest.ok,
-        at: rest.at,
-        count: rest.count,
-        fields,
-    }
+    GotParts { fields, ..rest }
 }
 
 // So many parts and one before them, with commas between them.
 fn parts(
     text: &[u8],
-    ok: bool,
     at: usize,
     more: usize,
     nodes: &mut [u8],
     count: usize,
     clause_type: usize,
     role: usize,
-) -> GotParts
-    requires { (ok ≡ true → Ready text.now at nodes.old count) × (clause_type < 256) × (role < 256) }
-    ensures { PartsRead more 31 clause_type role text.now ok at nodes.old count nodes.new result }
+) -> Option<GotParts>
+    requires { Ready text.now at nodes.old count × (clause_type < 256) × (role < 256) }
+    ensures { PartsRead more 31 clause_type role text.now at nodes.old count nodes.new result }
 {
-    let first = part(text, ok, at, nodes, count);
+    let first = part(text, at, nodes, count)?;
     if more == 0 {
         let fields = StoredClause {
             clause_type,
@@ -94,71 +82,38 @@ fn parts(
             mask3: 0,
         };
         let none = GotParts {
-            ok: first.ok,
             at: first.at,
             count: first.count,
             fields,
         };
-        return with_first(first, none);
+        return Some(with_first(first, none));
     }
-    let comma = leaf::sign(text, first.ok, first.at, COMMA);
-    let rest = parts(
-        text,
-        comma.ok,
-        comma.at,
-        more - 1,
-        nodes,
-        first.count,
-        clause_type,
-        role,
-    );
-    with_first(first, rest)
+    let comma = leaf::sign(text, first.at, COMMA)?;
+    let rest = parts(text, comma, more - 1, nodes, first.count, clause_type, role)?;
+    Some(with_first(first, rest))
 }
 
-// A clause of this role, where all went well before. It is written while there are fewer than 8, and counted in any case.
+// A clause of this role. It is written while there are fewer than 8, and counted in any case.
 pub fn clause(
     text: &[u8],
-    ok: bool,
-    at: usize,
+    from: Drafted,
     role: usize,
     nodes: &mut [u8],
-    count: usize,
     clauses: &mut [u8],
-    many: usize,
-) -> GotClause
-    requires { LineReady text.now ok at nodes.old count clauses.old many × (role < 256) }
-    ensures { LineRead a_clause has_clause (put_typed role) text.now ok at nodes.old count clauses.old many
+) -> Option<Drafted>
+    requires { LineReady text.now from nodes.old clauses.old × (role < 256) }
+    ensures { LineRead a_clause has_clause (put_typed role) text.now from nodes.old clauses.old
         nodes.new clauses.new result }
 {
-    let word = leaf::word(text, ok, at, PREF_WORD, TRIGGERS_WORD);
+    let word = leaf::word(text, from.at, PREF_WORD, TRIGGERS_WORD)?;
     let clause_type = word.value + 1;
-    let used = parts_used(clause_type);
-    let bracket = leaf::sign(text, word.ok, word.at, OPEN_ROUND);
-    let said = parts(
-        text,
-        bracket.ok,
-        bracket.at,
-        used - 1,
-        nodes,
-        count,
-        clause_type,
-        role,
-    );
-    let close = leaf::sign(text, said.ok, said.at, CLOSE_ROUND);
-    let fields = said.fields;
-    if !close.ok {
-        return GotClause {
-            ok: false,
-            at,
-            count,
-            many,
-        };
-    }
-    let more = draft::put_clause(clauses, many, fields);
-    GotClause {
-        ok: true,
-        at: close.at,
+    let bracket = leaf::sign(text, word.at, OPEN_ROUND)?;
+    let more = parts_used(clause_type) - 1;
+    let said = parts(text, bracket, more, nodes, from.count, clause_type, role)?;
+    let close = leaf::sign(text, said.at, CLOSE_ROUND)?;
+    Some(Drafted {
+        at: close,
         count: said.count,
-        many: more,
-    }
+        many: draft::put_clause(clauses, from.many, said.fields),
+    })
 }

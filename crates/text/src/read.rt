@@ -96,14 +96,13 @@ pub fn read_text(text: &[u8], out: &mut [u8]) -> Result<usize, Refusal>
     }
     let mut nodes = no_nodes();
     let mut clauses = no_clauses();
-    let said = sheet(text, &mut nodes, &mut clauses);
+    let Some(said) = sheet(text, &mut nodes, &mut clauses) else {
+        return Err(Refusal::OutsideGrammar);
+    };
     let s = said.signals;
     let m = said.names;
     let n = said.count;
     let c = said.many;
-    if !said.ok {
-        return Err(Refusal::OutsideGrammar);
-    }
     judge(s, m, &nodes, n, &clauses, c, out.len())?;
     Ok(assemble(out, s, m, &nodes, n, &clauses, c))
 }

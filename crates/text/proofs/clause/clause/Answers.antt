@@ -1,52 +1,30 @@
 -- `text::clause::clause` meets its contract.
-use mathlib.Core.Path.{refl}
 use native.Mathlib.Omega.{arith}
-use borrow.Author.Tests.{not-true, not-false}
-use Rattle.text.proofs.Clauses.{type_leafs, used-some, parts_ready, clause_unread, clause_fits_lem, clause_well, clause_onward, clause_read}
+use Rattle.text.proofs.Clauses.{used-some, type_none, no_bracket, no_parts, unclosed, clause_took}
 use Rattle.text.proofs.clause.clause.Goals as goal
 
-pub overflow_add-clause_type : goal.overflow_add-clause_type
-overflow_add-clause_type c = omega (arith, c.word-word.ensures.range)
+pub returns-in_err-word : goal.returns-in_err-word
+returns-in_err-word c = rw c.from_residual.ensures (type_none c.in_err-word.ensures)
 
-pub overflow_sub-used : goal.overflow_sub-used
-overflow_sub-used c =
-    omega (arith, c.parts_used-used.ensures, used-some _ c.word-word.ensures.range)
+pub returns-in_err-bracket : goal.returns-in_err-bracket
+returns-in_err-bracket c =
+    rw c.from_residual-in_err-bracket.ensures (no_bracket c.requires.0.inside c.in_ok-word.ensures c.in_err-bracket.ensures)
 
-pub parts-said-requires : goal.parts-said-requires
-parts-said-requires c =
-    let word = c.word-word in
-    let asked = c.requires in
-    (parts_ready asked.0 (type_leafs word.ensures) c.sign-bracket.ensures, omega (arith, word.ensures.range), asked.1)
+pub overflow_sub-more : goal.overflow_sub-more
+overflow_sub-more c = omega (arith, c.parts_used-more.ensures, used-some _ c.in_ok-word.ensures.range)
 
-pub returns-then-not-close : goal.returns-then-not-close
-returns-then-not-close c =
-    let bracket = c.sign-bracket in
-    let used = c.parts_used-used in
-    let word = c.word-word in
-    clause_unread (type_leafs word.ensures) word.ensures.range used.ensures bracket.ensures c.parts-said.ensures
-    c.sign-close.ensures (not-true _ c.if-not-close.true) refl
+pub returns-in_err-said : goal.returns-in_err-said
+returns-in_err-said c =
+    rw c.from_residual-in_err-said.ensures
+    (no_parts c.requires.0.inside c.in_ok-word.ensures c.in_ok-bracket.ensures c.parts_used-more.ensures c.in_err-said.ensures)
 
-pub put_clause-more-requires : goal.put_clause-more-requires
-put_clause-more-requires c =
-    let bracket = c.sign-bracket.ensures in
-    let used = c.parts_used-used.ensures in
-    let word = c.word-word.ensures in
-    let asked = c.requires in
-    let close = c.sign-close.ensures in
-    let final = not-false _ c.if-not-close.false in
-    let on = clause_onward (type_leafs word) word.range used bracket c.parts-said.ensures close final in
-    let few =
-    asked.0.clauses_taken (clause_well (type_leafs word) word.range used bracket c.parts-said.ensures close final) in (
-      asked.0.clauses_area,
-      omega arith,
-      λ _. clause_fits_lem (type_leafs word) word.range used bracket c.parts-said.ensures close final,
-    )
+pub returns-in_err-close : goal.returns-in_err-close
+returns-in_err-close c =
+    rw c.from_residual-in_err-close.ensures
+    (unclosed c.requires.0.inside c.in_ok-word.ensures c.in_ok-bracket.ensures c.parts_used-more.ensures c.in_ok-said.ensures
+    c.in_err-close.ensures)
 
 pub returns : goal.returns
 returns c =
-    let bracket = c.sign-bracket in
-    let used = c.parts_used-used in
-    let word = c.word-word in
-    clause_read (type_leafs word.ensures) word.ensures.range used.ensures bracket.ensures c.parts-said.ensures
-    c.sign-close.ensures
-    (not-false _ c.if-not-close.false) c.put_clause-more.ensures
+    clause_took c.requires.0.inside c.in_ok-word.ensures c.in_ok-bracket.ensures c.parts_used-more.ensures c.in_ok-said.ensures
+    c.in_ok-close.ensures c.put_clause.ensures

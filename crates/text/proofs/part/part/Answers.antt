@@ -1,16 +1,16 @@
 -- `text::part::part` meets its contract.
-use mathlib.Core.Path.{refl}
-use Rattle.text.proofs.Parts.{part_unread, part_read}
+use Rattle.text.proofs.Parts.{part_none, part_bare, part_twice, part_took}
 use Rattle.text.proofs.part.part.Goals as goal
 
-pub returns-then-not-ok : goal.returns-then-not-ok
-returns-then-not-ok c = part_unread _ _ _ _ _ _ _ _ (c.if-not-ok.true) refl
+pub returns-in_err-got : goal.returns-in_err-got
+returns-in_err-got c = rw c.from_residual.ensures (part_none c.in_err-got.ensures)
 
-pub formula-got-requires : goal.formula-got-requires
-formula-got-requires c = c.requires (c.if-not-ok.false)
+pub returns-in_err-colon : goal.returns-in_err-colon
+returns-in_err-colon c = rw c.from_residual-in_err-colon.ensures (part_bare c.in_ok-got.ensures c.in_err-colon.ensures)
+
+pub returns-in_err-listed : goal.returns-in_err-listed
+returns-in_err-listed c =
+    rw c.from_residual-in_err-listed.ensures (part_twice c.in_ok-got.ensures c.in_ok-colon.ensures c.in_err-listed.ensures)
 
 pub returns : goal.returns
-returns c =
-    let got = c.formula-got in
-    part_read _ _ _ _ _ _ got.result c.sign-colon.result c.names-listed.result got.ensures c.sign-colon.ensures c.names-listed.ensures
-    _ (c.if-not-ok.false)
+returns c = part_took c.in_ok-got.ensures c.in_ok-colon.ensures c.in_ok-listed.ensures

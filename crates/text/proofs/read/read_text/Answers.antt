@@ -1,5 +1,4 @@
 -- `text::read::read_text` meets its contract.
-use borrow.Author.Tests.{not-true, not-false}
 use native.Mathlib.Omega.{arith}
 use Rattle.text.proofs.Text.{read_deep, unended_outside, unread_outside, nothing_refused, read_judged, read_whole}
 use mathlib.Core.Path.{sym}
@@ -14,23 +13,17 @@ pub returns-then-not-ends_line : goal.returns-then-not-ends_line
 returns-then-not-ends_line c =
     unended_outside _ _ _ c.too_deep.ensures c.if-too_deep.false _ c.ends_line.ensures (c.if-not-ends_line.true)
 
-pub returns-then-not-said : goal.returns-then-not-said
-returns-then-not-said c =
-    let said = c.sheet-said in
-    let empty_nodes = c.no_nodes-nodes.ensures in
-    let empty_clauses = c.no_clauses-clauses.ensures in
-    unread_outside _ _ _ c.too_deep.ensures c.if-too_deep.false _ _ _ _ said.result empty_nodes empty_clauses
-    said.ensures (not-true _ c.if-not-said.true)
+pub returns-in_default : goal.returns-in_default
+returns-in_default c = unread_outside _ _ _ c.too_deep.ensures c.if-too_deep.false c.in_default.ensures
 
 pub returns-in_err-judge : goal.returns-in_err-judge
 returns-in_err-judge c =
-    let said = c.sheet-said in
     let empty_nodes = c.no_nodes-nodes.ensures in
     let empty_clauses = c.no_clauses-clauses.ensures in
     let p = err_from_is_err_and c.from_residual.result c.from_residual.ensures.1 in
     rw (p.1, p.2)
-    (read_judged _ _ _ c.too_deep.ensures c.if-too_deep.false _ _ _ _ said.result empty_nodes empty_clauses said.ensures _
-    c.ends_line.ensures (c.if-not-ends_line.false) (not-false _ c.if-not-said.false) _ (sym c.in_err-judge.ensures))
+    (read_judged _ _ _ c.too_deep.ensures c.if-too_deep.false _ _ _ _ c.in-Some.said empty_nodes empty_clauses c.in-Some.ensures _
+    c.ends_line.ensures (c.if-not-ends_line.false) _ (sym c.in_err-judge.ensures))
 
 pub assemble-requires : goal.assemble-requires
 assemble-requires c =
@@ -42,8 +35,7 @@ assemble-requires c =
 
 pub returns : goal.returns
 returns c =
-    let said = c.sheet-said in
     let empty_nodes = c.no_nodes-nodes.ensures in
     let empty_clauses = c.no_clauses-clauses.ensures in
-    read_whole _ _ _ c.too_deep.ensures c.if-too_deep.false _ _ _ _ said.result empty_nodes empty_clauses said.ensures _
-    c.ends_line.ensures (c.if-not-ends_line.false) (not-false _ c.if-not-said.false) _ _ (sym c.in_ok-judge.ensures) c.assemble.ensures
+    read_whole _ _ _ c.too_deep.ensures c.if-too_deep.false _ _ _ _ c.in-Some.said empty_nodes empty_clauses c.in-Some.ensures _
+    c.ends_line.ensures (c.if-not-ends_line.false) _ _ (sym c.in_ok-judge.ensures) c.assemble.ensures

@@ -1,17 +1,18 @@
 -- `text::sheet::line` meets its contract.
-use native.Mathlib.Omega.{arith}
-use Rattle.text.proofs.Lines.{role_leafs, clause_ready, line_read}
+use Rattle.text.proofs.Lines.{role_none, no_clause, no_end, line_took}
 use Rattle.text.proofs.sheet.line.Goals as goal
 
-pub clause-said-requires : goal.clause-said-requires
-clause-said-requires c =
-    let word = c.word-word in
-    let asked = c.requires in
-    (clause_ready word.result asked.0 (role_leafs asked.1 word.ensures), omega (arith, word.ensures.range))
+pub returns-in_err-word : goal.returns-in_err-word
+returns-in_err-word c = rw c.from_residual.ensures (role_none c.requires.1 c.in_err-word.ensures)
+
+pub returns-in_err-said : goal.returns-in_err-said
+returns-in_err-said c =
+    rw c.from_residual-in_err-said.ensures (no_clause c.requires.0.inside c.in_ok-word.ensures c.in_err-said.ensures)
+
+pub returns-in_err-end : goal.returns-in_err-end
+returns-in_err-end c =
+    rw c.from_residual-in_err-end.ensures
+    (no_end c.requires.0.inside c.in_ok-word.ensures c.in_ok-said.ensures c.in_err-end.ensures)
 
 pub returns : goal.returns
-returns c =
-    let word = c.word-word in
-    let said = c.clause-said in
-    line_read _ _ _ _ _ _ _ _ word.result said.result c.sign-end.result (role_leafs c.requires.1 word.ensures)
-    word.ensures.range said.ensures c.sign-end.ensures
+returns c = line_took c.requires.0.inside c.in_ok-word.ensures c.in_ok-said.ensures c.in_ok-end.ensures

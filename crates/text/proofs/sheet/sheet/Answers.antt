@@ -1,16 +1,21 @@
 -- `text::sheet::sheet` meets its contract.
-use Rattle.text.proofs.Lines.{lines_ready, sheet_read}
+use Rattle.text.proofs.Lines.{no_signals, no_names, no_line_end, no_lines_there, sheet_took}
 use Rattle.text.proofs.sheet.sheet.Goals as goal
 
-pub lines-said-requires : goal.lines-said-requires
-lines-said-requires c =
-    let asked = c.requires in
-    lines_ready c.sign-end.result asked.0 asked.1 c.sign-end.ensures
+pub returns-in_err-s : goal.returns-in_err-s
+returns-in_err-s c = rw c.from_residual.ensures (no_signals c.in_err-s.ensures)
+
+pub returns-in_err-m : goal.returns-in_err-m
+returns-in_err-m c = rw c.from_residual-in_err-m.ensures (no_names c.in_ok-s.ensures c.in_err-m.ensures)
+
+pub returns-in_err-end : goal.returns-in_err-end
+returns-in_err-end c =
+    rw c.from_residual-in_err-end.ensures (no_line_end c.in_ok-s.ensures c.in_ok-m.ensures c.in_err-end.ensures)
+
+pub returns-in_err-said : goal.returns-in_err-said
+returns-in_err-said c =
+    rw c.from_residual-in_err-said.ensures
+    (no_lines_there c.in_ok-s.ensures c.in_ok-m.ensures c.in_ok-end.ensures c.in_err-said.ensures)
 
 pub returns : goal.returns
-returns c =
-    let s = c.number-s in
-    let m = c.number-m in
-    let end = c.sign-end in
-    let said = c.lines-said in
-    sheet_read _ _ _ _ _ s.result m.result end.result said.result s.ensures m.ensures end.ensures said.ensures
+returns c = sheet_took c.in_ok-s.ensures c.in_ok-m.ensures c.in_ok-end.ensures c.in_ok-said.ensures
