@@ -25,7 +25,9 @@ fn are_held(cycles: &[u16], taken: usize, s: usize) -> bool
     if MOST_CYCLES < taken {
         return false;
     }
-    cycles[..taken].iter().all(|cycle| is_below(*cycle as usize, s))
+    cycles[..taken]
+        .iter()
+        .all(|cycle| is_below(*cycle as usize, s))
 }
 
 // How many signals the board's sheet has, where the board takes the cycle. Refused are its sheet by 1 to 9, its cycles by 13, the words by

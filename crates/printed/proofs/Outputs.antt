@@ -31,7 +31,7 @@ use Rattle.printed.specs.Sheet.{most_text, said_for, Answered, SheetOutput}
 use Rattle.lines.proofs.Texts.{refused_length}
 
 -- the line of a refusal in bytes enough
-pub record LineIn (number : ℕ) (bytes : List ℕ) (r : Output) : Type 0 where
+pub record LineIn (number : ℕ) (bytes : List ℕ) (r : Output least_output) : Type 0 where
   pub inside : r.length ≤ length r.bytes
   pub line : take r.length r.bytes ≡ refused_text number
   pub later : drop r.length r.bytes ≡ drop r.length bytes

@@ -1,6 +1,6 @@
 -- Document 01, what the program prints: "BROKEN clause i j k", "HOLDS", "EXCUSED clause" or "REFUSED number", and a newline. A verdict ends with
 -- a space and its advice in decimal (request 5).
-use Rattle.std.specs.Prelude.{ℕ, List, [], ◌∷◌, ◌++◌, length, replicate, Result, Ok, Err}
+use Rattle.std.specs.Prelude.{ℕ, List, [], ◌∷◌, ◌++◌, replicate, Result, Ok, Err}
 use Rattle.stored.specs.Layout.{least_words}
 use Rattle.checker.specs.declared.check.Finding.{Finding}
 use Rattle.checker.specs.declared.check.Finding.TheVariants.{Excused, Broken, Holds}
@@ -8,9 +8,10 @@ use Rattle.checker.specs.declared.check.Verdict.{Verdict}
 use Rattle.stored.specs.declared.refusal.Refusal.{Refusal}
 use Rattle.stored.specs.Refusal.{number_of}
 use Rattle.checker.specs.Check.{check_answer}
-use Rattle.printed.specs.declared.line.Line.{Line}
+use Rattle.lines.specs.declared.output.Output.{Output}
+use Rattle.lines.specs.Output.{text_in}
 use Rattle.lines.specs.Input.{sheet_of, trace_of}
-use Rattle.lines.specs.Lines.{line_with, refused_text, padded}
+use Rattle.lines.specs.Lines.{line_with, refused_text}
 
 abbrev pub broken_word : List ℕ
 broken_word = 66 ∷ 82 ∷ 79 ∷ 75 ∷ 69 ∷ 78 ∷ []
@@ -44,8 +45,8 @@ abbrev pub most_line : ℕ
 most_line = 32
 
 -- a text in an array of so many bytes
-unfoldable pub line_of : List ℕ → Line
-line_of l = record { bytes = padded most_line l; length = length l }
+abbrev pub line_of : List ℕ → Output most_line
+line_of l = text_in most_line l
 
 -- the check's answer to the program's input, over words enough
 unfoldable pub answer_for : List ℕ → Result Verdict Refusal

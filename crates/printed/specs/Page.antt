@@ -1,13 +1,14 @@
 -- The text of an answer of the table operation: 64 lines of 16 hexadecimal digits, row 0 first, or "REFUSED n" and a newline.
-use Rattle.std.specs.Prelude.{ℕ, ◌+◌, ◌-◌, ◌*◌, ◌/◌, ◌%◌, ◌^◌, cond, List, ltb, eqb, length, get_or, drop, replicate, Result, Ok, Err}
+use Rattle.std.specs.Prelude.{ℕ, ◌+◌, ◌-◌, ◌*◌, ◌/◌, ◌%◌, ◌^◌, cond, List, ltb, eqb, get_or, drop, replicate, Result, Ok, Err}
 use Rattle.stored.specs.Bytes.{word, in_order}
 use Rattle.stored.specs.Layout.{least_words}
 use Rattle.stored.specs.declared.refusal.Refusal.{Refusal}
 use Rattle.stored.specs.Refusal.{number_of}
 use Rattle.checker.specs.Table.{table_answer}
-use Rattle.printed.specs.declared.page.Page.{Page}
+use Rattle.lines.specs.declared.output.Output.{Output}
+use Rattle.lines.specs.Output.{text_in}
 use Rattle.lines.specs.Input.{sheet_of, trace_of}
-use Rattle.lines.specs.Lines.{refused_text, padded}
+use Rattle.lines.specs.Lines.{refused_text}
 
 -- 0 to 9, a to f
 unfoldable pub glyph_of : ℕ → ℕ
@@ -28,8 +29,8 @@ text_of (Ok rows) = table_text rows
 text_of (Err refusal) = refused_text (number_of refusal)
 
 -- a text in an array of 1,088 bytes
-unfoldable pub page_of : List ℕ → Page
-page_of l = record { bytes = padded 1088 l; length = length l }
+abbrev pub page_of : List ℕ → Output 1088
+page_of l = text_in 1088 l
 
 -- The program's input is the node in two bytes, a byte for each of the three cycles, and the sheet with the trace.
 unfoldable pub answer_to : List ℕ → Result (List ℕ) Refusal

@@ -25,7 +25,7 @@ pub record Answered (text out : List ℕ) : Type 0 where
 
 -- r's bytes up to its length are the answer to the text, and zero from there on; 0, which is no refusal's number, for a text longer than
 -- the program holds, since nothing was read of it
-pub record SheetOutput (text : List ℕ) (r : Output) : Type 0 where
+pub record SheetOutput (text : List ℕ) (r : Output least_output) : Type 0 where
   pub inside : r.length ≤ length r.bytes
   pub answered : length text ≤ most_text → Answered text (take r.length r.bytes)
   pub unread : most_text < length text → take r.length r.bytes ≡ refused_text 0

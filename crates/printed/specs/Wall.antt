@@ -9,15 +9,15 @@ use Rattle.checker.specs.declared.check.Verdict.{Verdict}
 use Rattle.board.specs.declared.Board.{Board}
 use Rattle.board.specs.Board.{new_board, feed_answer, next_board}
 use Rattle.lines.specs.Lines.{refused_text}
-use Rattle.printed.specs.declared.line.Line.{Line}
-use Rattle.printed.specs.Line.{line_of}
+use Rattle.lines.specs.declared.output.Output.{Output}
+use Rattle.printed.specs.Line.{most_line, line_of}
 
 -- the bytes of the longest input that is a sheet by its length field
 abbrev pub most_held : ℕ
 most_held = 65537
 
 -- the new board of a sheet, or the line of its refusal
-unfoldable pub opening_of : List ℕ → Result Board Line
+unfoldable pub opening_of : List ℕ → Result Board (Output most_line)
 opening_of s = pick (eqb (sheet_refusal s) 0) (Ok (new_board s)) (Err (line_of (refused_text (sheet_refusal s))))
 
 unfoldable pub minute_answer : Board → List ℕ → Result Verdict Refusal

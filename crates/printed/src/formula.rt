@@ -3,10 +3,11 @@ ghost use Rattle.printed.specs.Formula.{OutputOf};
 
 use lines::output;
 use lines::output::Output;
+use stored::layout::LEAST_OUTPUT;
 use translator::translate;
 
 // What the formula program writes for its input, all of which is the sheet.
-pub fn formula_output(sheet: &[u8]) -> Output
+pub fn formula_output(sheet: &[u8]) -> Output<LEAST_OUTPUT>
     ensures { OutputOf sheet.now result }
 {
     let mut bytes = output::blank();

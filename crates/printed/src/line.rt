@@ -7,17 +7,11 @@ ghost use Rattle.printed.specs.Line.{verdict_text, line_text, most_line, line_of
 use checker::check::{Finding, Verdict, check};
 use lines::input::{lent_words, split};
 use lines::lines::{put_line, put_refused};
+use lines::output::Output;
 use stored::refusal::Refusal;
 
 // The bytes that a line takes at most.
 pub const MOST_LINE: usize = 32;
-
-// A text and its length.
-#[derive(Drop)]
-pub struct Line {
-    pub bytes: [u8; MOST_LINE],
-    pub length: usize,
-}
 
 // Puts the line of a verdict and gives its length: the finding's word and numbers, and the advice.
 fn put_verdict(out: &mut [u8], verdict: Verdict) -> usize
@@ -72,17 +66,17 @@ fn blank() -> [u8; MOST_LINE]
 }
 
 // The line of an answer.
-pub fn answer_line(answer: Result<Verdict, Refusal>) -> Line
+pub fn answer_line(answer: Result<Verdict, Refusal>) -> Output<MOST_LINE>
     requires { IfOk answer SmallVerdict }
     ensures { (result ≡ line_of (line_text answer)) × (result.length ≤ length result.bytes) }
 {
     let mut bytes = blank();
     let length = put_answer(&mut bytes, answer);
-    Line { bytes, length }
+    Output { bytes, length }
 }
 
 // What the check program writes for its input, short ones too.
-pub fn check_line(input: &[u8]) -> Line
+pub fn check_line(input: &[u8]) -> Output<MOST_LINE>
     ensures { (result ≡ line_of (line_for input.now)) × (result.length ≤ length result.bytes) }
 {
     answer_line(answer_for(input))

@@ -5,14 +5,8 @@ ghost use Rattle.printed.specs.Page.{glyph_of, row_byte, table_text, text_of, pa
 use checker::table::table;
 use lines::input::{byte_at, lent_words, split, word_at};
 use lines::lines::put_refused;
+use lines::output::Output;
 use stored::refusal::Refusal;
-
-// A text and its length.
-#[derive(Drop)]
-pub struct Page {
-    pub bytes: [u8; 1088],
-    pub length: usize,
-}
 
 // The code of a hexadecimal digit.
 fn glyph(d: u64) -> u8
@@ -52,19 +46,19 @@ fn row_lines(rows: &[u64; 64]) -> [u8; 1088]
 }
 
 // The page of an answer.
-fn page_of(answer: Result<[u64; 64], Refusal>) -> Page
+fn page_of(answer: Result<[u64; 64], Refusal>) -> Output<1088>
     ensures value { result ≡ page_of (text_of answer) }
     ensures within { result.length ≤ length result.bytes }
 {
     match answer {
-        Ok(rows) => Page {
+        Ok(rows) => Output {
             bytes: row_lines(&rows),
             length: 1088,
         },
         Err(refusal) => {
             let mut bytes = blank();
             let length = put_refused(&mut bytes, refusal.number());
-            Page { bytes, length }
+            Output { bytes, length }
         }
     }
 }
@@ -99,7 +93,7 @@ fn answer_to(input: &[u8]) -> Result<[u64; 64], Refusal>
 }
 
 // What the table program writes for its input, short ones too.
-pub fn table_page(input: &[u8]) -> Page
+pub fn table_page(input: &[u8]) -> Output<1088>
     ensures { (result ≡ page_of (printed_for input.now)) × (result.length ≤ length result.bytes) }
 {
     page_of(answer_to(input))

@@ -3,9 +3,10 @@ ghost use Rattle.std.specs.Prelude.{◌≡◌, ◌≤◌, length, IfErr};
 ghost use Rattle.printed.specs.Line.{line_text, line_of};
 ghost use Rattle.printed.specs.Wall.{opening_of, minute_answer, minute_board};
 
-use crate::line::{Line, answer_line};
+use crate::line::{MOST_LINE, answer_line};
 use board::Board;
 use lines::input::{lent_words, word_at};
+use lines::output::Output;
 
 // The bytes of the longest input that is a sheet by its length field.
 pub const HELD_SHEET: usize = 65537;
@@ -14,11 +15,11 @@ pub const HELD_SHEET: usize = 65537;
 #[derive(Drop)]
 pub struct Minute {
     pub board: Board,
-    pub line: Line,
+    pub line: Output<MOST_LINE>,
 }
 
 // What the board program does with its sheet: its board, or the line of its refusal.
-pub fn open_line(sheet: &[u8]) -> Result<Board, Line>
+pub fn open_line(sheet: &[u8]) -> Result<Board, Output<MOST_LINE>>
     ensures value { result ≡ opening_of sheet.now }
     ensures within { IfErr result (λ line. line.length ≤ length line.bytes) }
 {

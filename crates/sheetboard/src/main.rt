@@ -8,7 +8,8 @@ ghost use Rattle.printed.specs.Wall.{most_held};
 
 use board::Board;
 use lines::input::word_at;
-use printed::line::Line;
+use lines::output::Output;
+use printed::line::MOST_LINE;
 use printed::wall::{HELD_SHEET, minute_line, open_line};
 use std::io;
 use std::io::{Read, Write};
@@ -25,11 +26,11 @@ fn read_sheet<R: Read>(reader: &mut R, input: &mut [u8]) -> io::Result<usize>
     Ok(head + rest)
 }
 
-fn write_line<W: Write>(writer: &mut W, line: Line) -> io::Result<()>
+fn write_line<W: Write>(writer: &mut W, line: Output<MOST_LINE>) -> io::Result<()>
     requires { line.length ≤ length line.bytes }
     ensures { OnOk result (Appends (W.contents writer.old) (W.contents writer.new) (take line.length line.bytes)) }
 {
-    writer.write_all(&line.bytes[..line.length])?;
+    writer.write_all(line.as_slice())?;
     writer.flush()
 }
 

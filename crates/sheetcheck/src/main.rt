@@ -9,5 +9,5 @@ fn main(rt: HostRuntime) -> io::Result<()> {
     let mut input = [0u8; 1024];
     let got = read_full(&mut rt.stdin(), &mut input)?;
     let line = check_line(&input[..got]);
-    rt.write_all(&line.bytes[..line.length])
+    rt.write_all(line.as_slice())
 }

@@ -9,5 +9,5 @@ fn main(rt: HostRuntime) -> io::Result<()> {
     let mut input = [0u8; 1029];
     let got = read_full(&mut rt.stdin(), &mut input)?;
     let page = table_page(&input[..got]);
-    rt.write_all(&page.bytes[..page.length])
+    rt.write_all(page.as_slice())
 }

@@ -10,5 +10,5 @@ fn main(rt: HostRuntime) -> io::Result<()> {
     let mut input = [0u8; HELD];
     let got = read_full(&mut rt.stdin(), &mut input)?;
     let output = sheet_output(&input[..got]);
-    rt.write_all(&output.bytes[..output.length])
+    rt.write_all(output.as_slice())
 }

@@ -1,4 +1,5 @@
 -- `printed::line::answer_line` meets its contract.
+use Rattle.lines.specs.Output.{text_in}
 use Prim.Native.Nat.{ℕ}
 use mathlib.Core.List.{List}
 use mathlib.Core.Path.{ap₂}
@@ -7,7 +8,7 @@ use Rattle.lines.proofs.Texts.{put_padded}
 use Rattle.printed.proofs.line.answer_line.Goals as goal
 
 pub returns : goal.returns
-unfolding line_of
+unfolding text_in
 returns c =
     let e = c.put_answer-length.ensures in
     let w = put_padded most_line c.blank-bytes.ensures e.0 e.1 in

@@ -1,4 +1,5 @@
 -- `printed::page::page_of` meets its contract.
+use Rattle.lines.specs.Output.{text_in}
 use Prim.Native.Nat.{ℕ}
 use mathlib.Core.List.{List}
 use mathlib.Core.Path.{sym, ◌∙◌, ap, ap₂}
@@ -13,7 +14,7 @@ use Rattle.printed.proofs.Shown.{padded_whole, table_length}
 use Rattle.printed.proofs.page.page_of.Goals as goal
 
 pub returns-in-Ok : goal.returns-in-Ok
-unfolding page_of text_of
+unfolding text_in text_of
 returns-in-Ok c =
     let e = c.row_lines.ensures in
     let long = table_length c.in-Ok.rows in
@@ -24,7 +25,7 @@ returns-in-Ok c =
     }
 
 pub returns-in-Err : goal.returns-in-Err
-unfolding page_of text_of
+unfolding text_in text_of
 returns-in-Err c =
     let e = c.put_refused-length.ensures in
     let w = put_padded 1088 c.blank-bytes.ensures e.0 (omega (arith, e.1)) in
