@@ -2,7 +2,7 @@
 use Rattle.std.specs.Prelude.{ℕ, ◌+◌, ◌≤◌, ◌<◌, true, cond, ◌&&◌, List, ◌≡◌, eqb, ltb, length, set}
 use Rattle.stored.specs.declared.Node.{Node}
 use Rattle.stored.specs.declared.nodes.Use.{Use}
-use Rattle.stored.specs.Node.{emitted_sorts, sort_of, is_operand, a_use, b_use}
+use Rattle.stored.specs.Node.{proposition, formula, emitted_sorts, sort_of, is_operand, a_use, b_use}
 use Rattle.stored.specs.Tree.{proposition_at, formula_at}
 use Rattle.stored.specs.Reach.{entry_of}
 use Rattle.stored.specs.Reached.{has_operand, Reached}
@@ -45,8 +45,8 @@ pub record MarkedFrom (x : ℕ → Node) (root i : ℕ) (marks : List ℕ) : Typ
 -- ---- the nodes kept
 -- node r is what node i of x is
 pub record Same (x : ℕ → Node) (i : ℕ) (y : List ℕ) (r : ℕ) : Type 0 where
-  pub proposition : sort_of emitted_sorts (x i).op ≡ 1 → HasProposition y r (proposition_at x i)
-  pub formula : sort_of emitted_sorts (x i).op ≡ 2 → Has y r (formula_at x i)
+  pub proposition : sort_of emitted_sorts (x i).op ≡ proposition → HasProposition y r (proposition_at x i)
+  pub formula : sort_of emitted_sorts (x i).op ≡ formula → Has y r (formula_at x i)
 
 -- bytes became others by node i, which is n, where it is marked: then it is node r
 pub data KeptAt (marks map : List ℕ) (i : ℕ) (n : Node) : List ℕ → List ℕ → ℕ → Type 0 where

@@ -17,7 +17,7 @@ use Rattle.rows.specs.Row.{word, row, joined}
 use Rattle.rows.proofs.Masks.{cut_bit}
 use Rattle.stored.specs.declared.Node.{Node}
 use Rattle.traces.specs.Columns.{IsColumns, trace_of, marks_of}
-use Rattle.stored.specs.Node.{requirement_sorts, sort_of, node_at}
+use Rattle.stored.specs.Node.{proposition, formula, requirement_sorts, sort_of, node_at}
 use Rattle.stored.specs.Reach.{reach_at, reach_table}
 use Rattle.stored.proofs.Rules.{length_in_order}
 use Rattle.stored.specs.Tree.{earlier, proposition_op, formula_op, formula_of, proposition_at, formula_at}
@@ -132,10 +132,10 @@ module _ {x : ℕ → Node} {σ : Trace} {μ : Marks} {n : ℕ} (few : n ≤ 64)
         beside = λ k c l ne. row_other new i (b - 1) v k c (omega arith) l (λ y _. ne y) ∙ t.beside k c l ne;
       })
 
-  pub partly_all : (i b : ℕ) (old new : List ℕ) → b ≡ 0 → sort_of requirement_sorts (x i).op ≡ 2 → Partly x σ μ n i b old new → Filled x σ μ n i old new
+  pub partly_all : (i b : ℕ) (old new : List ℕ) → b ≡ 0 → sort_of requirement_sorts (x i).op ≡ formula → Partly x σ μ n i b old new → Filled x σ μ n i old new
   partly_all i b old new z s t =
       record {
-        done = record { rows = λ _ c h. t.later c (omega arith) h; column = λ u. absurd (omega arith) };
+        done = record { rows = λ _ c h. t.later c (omega arith) h; column = λ u. let other : formula ≡ proposition = sym s ∙ u in cc };
         others = t.beside;
       }
 
@@ -145,13 +145,13 @@ module _ {x : ℕ → Node} {σ : Trace} {μ : Marks} {n : ℕ} (few : n ≤ 64)
       record { done = f.done; others = λ k b l ne. f.others k b l ne ∙ c.beside k b l ne }
 
   -- a proposition's column
-  pub column_put : (i v place : ℕ) (old : List ℕ) → place ≡ 64 * i → 64 * i + 64 ≤ length old → sort_of requirement_sorts (x i).op ≡ 1
+  pub column_put : (i v place : ℕ) (old : List ℕ) → place ≡ 64 * i → 64 * i + 64 ≤ length old → sort_of requirement_sorts (x i).op ≡ proposition
       → v ≡ word n (λ t. holds_at (proposition_at x i) σ μ t) → Filled x σ μ n i old (set old place v)
   column_put i v place old p h s e =
       let start : 64 * i + 0 ≡ place = omega arith in
       subst (λ (k : ℕ). Filled x σ μ n i old (set old k v)) start
       (record {
-        done = record { rows = λ u b l. absurd (omega arith); column = λ u. row_set old i 0 v (omega arith) ∙ e };
+        done = record { rows = λ u b l. let other : formula ≡ proposition = sym u ∙ s in cc; column = λ u. row_set old i 0 v (omega arith) ∙ e };
         others = λ k c l ne. row_other old i 0 v k c (omega arith) l (λ y _. ne y);
       })
 
@@ -163,7 +163,7 @@ module _ {nodes : List ℕ} {count n : ℕ} {columns words : List ℕ} (g : Give
   abbrev μ : Marks
   μ = marks_of columns
 
-  pub column_law : (old : List ℕ) → Before (node_at nodes) σ μ n old i → sort_of requirement_sorts (node_at nodes i).op ≡ 1
+  pub column_law : (old : List ℕ) → Before (node_at nodes) σ μ n old i → sort_of requirement_sorts (node_at nodes i).op ≡ proposition
       → column_of (proposition_op (node_at nodes i).op) (node_at nodes i) n columns old ≡ word n (λ t. holds_at (proposition_at (node_at nodes) i) σ μ t)
   unfolding Columns Column
   column_law old before s =
@@ -175,7 +175,7 @@ module _ {nodes : List ℕ} {count n : ℕ} {columns words : List ℕ} (g : Give
       ∙ ap (λ (q : Proposition). word n (λ t. holds_at q σ μ t)) (sym (proposition_law requirement_sorts (node_at nodes) i (operands_at g i h)))
 
   pub row_law : (old now : List ℕ) (first second b : ℕ) → b < n → Before (node_at nodes) σ μ n old i
-      → Before (node_at nodes) σ μ n now i → sort_of requirement_sorts (node_at nodes i).op ≡ 2
+      → Before (node_at nodes) σ μ n now i → sort_of requirement_sorts (node_at nodes i).op ≡ formula
       → first ≡ first_column (node_at nodes i).op (node_at nodes i) columns old
       → second ≡ second_column (node_at nodes i).op (node_at nodes i) columns
       → ((c : ℕ) → b < c → c < n → row_at now i c ≡ row n (holds (formula_at (node_at nodes) i) σ μ) c)
@@ -198,7 +198,7 @@ module _ {nodes : List ℕ} {count n : ℕ} {columns words : List ℕ} (g : Give
       Is f = (c : ℕ) → b < c → c < n → row_at now i c ≡ row n (holds f σ μ) c
 
   -- row b - 1 of node i, which was read as y, where the later rows are right
-  pub row_right : (y : Node) (first second b v : ℕ) (old now : List ℕ) → y ≡ node_at nodes i → sort_of requirement_sorts (node_at nodes i).op ≡ 2
+  pub row_right : (y : Node) (first second b v : ℕ) (old now : List ℕ) → y ≡ node_at nodes i → sort_of requirement_sorts (node_at nodes i).op ≡ formula
       → 0 < b → b ≤ n → Before (node_at nodes) σ μ n old i
       → first ≡ first_column y.op y columns old → second ≡ second_column y.op y columns
       → v ≡ row_of (formula_op y.op) y n first second now i (b - 1)
@@ -211,7 +211,7 @@ module _ {nodes : List ℕ} {count n : ℕ} {columns words : List ℕ} (g : Give
       (λ c a z. t.later c (omega arith) z)
 
   -- that row written
-  pub partly_row : (y : Node) (first second b v : ℕ) (old now : List ℕ) → y ≡ node_at nodes i → sort_of requirement_sorts (node_at nodes i).op ≡ 2
+  pub partly_row : (y : Node) (first second b v : ℕ) (old now : List ℕ) → y ≡ node_at nodes i → sort_of requirement_sorts (node_at nodes i).op ≡ formula
       → 0 < b → b ≤ n → length now ≡ length words → Before (node_at nodes) σ μ n old i
       → first ≡ first_column y.op y columns old → second ≡ second_column y.op y columns
       → v ≡ row_of (formula_op y.op) y n first second now i (b - 1)

@@ -12,7 +12,7 @@ use crate::words::{clear_rows, joined_at, row_at};
 use rows::mask::{below, only};
 use stored::layout::MOST_NODES;
 use stored::masks::name_mask;
-use stored::nodes::node_at;
+use stored::nodes::{Sort, node_at, sort_of};
 use stored::ops::{CHOP, STAR};
 use traces::trace::FIRST_NAME;
 
@@ -187,8 +187,7 @@ fn put_node(nodes: &[u8], count: usize, n: usize, columns: &[u64], i: usize, wor
         put_pair(nodes, count, n, columns, i, words);
         return;
     }
-    let sort = stored::nodes::sort_of(op);
-    if sort == 1 {
+    if let Some(Sort::Proposition) = sort_of(op) {
         put_column(nodes, count, n, columns, i, words);
         return;
     }
