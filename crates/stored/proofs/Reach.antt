@@ -1,11 +1,11 @@
 -- The reach mask of a node of a kind 1 sheet is the set of the names of its tree.
 use Prim.Native.Nat.{ℕ, zero, suc, ◌/◌, ◌%◌, ◌^◌, ◌≤◌, ◌<◌}
-use mathlib.Core.Bool.{Bool, true, false, not, cond, ◌&&◌, ◌||◌, beq}
+use mathlib.Core.Bool.{Bool, true, false, not, ◌&&◌, ◌||◌, beq}
 use mathlib.Core.List.{List, [], ◌∷◌}
 use mathlib.Core.Path.{◌≡◌, refl, sym, ◌∙◌, ap, ap₂, subst, fun_ext}
 use native.Mathlib.Nat.{pow-le-pow_right, div-eq_of_lt}
 use native.Mathlib.Omega.{arith}
-use borrow.Author.Tests.{ltb-true, ltb-false, eq-eqb}
+use borrow.Author.Tests.{ltb-true, ltb-false}
 use lib.Bits.{or_zero_l, or_zero_r, or_lt}
 use lib.Dec.{eqb, ltb}
 use lib.ListN.{get_or, get_or-eq_default}
@@ -22,7 +22,7 @@ use Rattle.stored.specs.Node.{proposition, formula, requirement_sorts, sort_of, 
 use Rattle.stored.specs.Tree.{earlier, proposition_op, formula_op, proposition_of, proposition_at, formula_of, formula_at}
 use Rattle.stored.specs.Reach.{joint, name_mask, field_reach, node_reach, reach_step, reach_at, covers, reach_table, entry_of}
 use Rattle.semantics.proofs.Tests.{and_left, and_right}
-use Rattle.stored.proofs.Rules.{asked, every_at, every_number, get_or_in_order}
+use Rattle.stored.proofs.Rules.{every_at, every_number, get_or_in_order}
 use Rattle.stored.proofs.Made.{earlier_at, made_step}
 use Rattle.stored.proofs.Tree.{operands, proposition_cases, formula_cases, proposition_law, formula_law, is_proposition, is_formula}
 

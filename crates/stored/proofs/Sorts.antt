@@ -1,6 +1,6 @@
 -- Whether two sorts are the same.
-use mathlib.Core.Bool.{true, false, true≢false, false≢true}
-use mathlib.Core.Path.{◌≡◌, refl, subst, sym}
+use mathlib.Core.Bool.{true, false≢true}
+use mathlib.Core.Path.{◌≡◌, refl, subst}
 use Rattle.std.proofs.Common.{Option, Some, None}
 use Rattle.stored.specs.declared.nodes.Sort.{Sort}
 use Rattle.stored.specs.declared.nodes.Sort.TheVariants.{Proposition, Formula}

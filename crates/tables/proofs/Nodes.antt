@@ -1,11 +1,11 @@
 -- What rules 6 and 7 say of one node.
 use Prim.Native.Nat.{ℕ, ◌/◌, ◌%◌, ◌<◌}
-use mathlib.Core.Bool.{true, ◌&&◌, true≢false}
+use mathlib.Core.Bool.{true, true≢false}
 use mathlib.Core.List.{List}
 use mathlib.Core.Path.{◌≡◌, sym, ap, subst, ◌∙◌}
 use native.Mathlib.Omega.{arith}
 use borrow.Author.Tests.{ltb-true}
-use lib.Dec.{ltb, eqb}
+use lib.Dec.{ltb}
 use Rattle.std.specs.Option.{is_some}
 use Rattle.stored.specs.declared.Node.{Node}
 use Rattle.stored.specs.declared.nodes.Use.{Use}
