@@ -18,7 +18,7 @@ use Rattle.stored.specs.declared.StoredClause.{StoredClause}
 use Rattle.std.specs.Prelude.{Ok}
 use Rattle.stored.specs.Bytes.{in_order, lowest}
 use Rattle.traces.specs.Columns.{columns_of, trace_of}
-use Rattle.stored.specs.Node.{node_at, requirement_sorts}
+use Rattle.stored.specs.Node.{formula, node_at, requirement_sorts}
 use Rattle.stored.specs.Clause.{stored_at, clause_of, parts_used}
 use Rattle.stored.specs.Sheet.{header_of, node_part, clause_part, nodes_of, stored_of, clause_in, clauses_of, sheet_answer}
 use Rattle.traces.specs.Trace.{cycles_of, trace_answer}
@@ -54,7 +54,7 @@ module _ (s t words : List ℕ) (h : Header) (accepted : sheet_answer s ≡ Ok h
       )
 
 -- ---- the clauses of an accepted sheet
-formula_at_lem : (s : List ℕ) {root : ℕ} → Earlier requirement_sorts (nodes_of s) (header_of s).nodes root 2 → IsFormula (node_part s) (header_of s).nodes root
+formula_at_lem : (s : List ℕ) {root : ℕ} → Earlier requirement_sorts (nodes_of s) (header_of s).nodes root formula → IsFormula (node_part s) (header_of s).nodes root
 unfolding nodes_of
 formula_at_lem s e = record { below = e.less; sort = e.sorted }
 

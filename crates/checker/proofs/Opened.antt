@@ -12,7 +12,7 @@ use Rattle.stored.specs.declared.Header.{Header}
 use Rattle.std.specs.Prelude.{Ok}
 use Rattle.stored.specs.Bytes.{in_order}
 use Rattle.traces.specs.Columns.{columns_of, trace_of}
-use Rattle.stored.specs.Node.{requirement_sorts, sort_of, node_at, node_right, operands_right}
+use Rattle.stored.specs.Node.{formula, requirement_sorts, sort_of, node_at, node_right, operands_right}
 use Rattle.stored.specs.Sheet.{header_of, node_part, nodes_of, sheet_answer}
 use Rattle.traces.specs.Trace.{cycle_count, cycles_of, trace_answer}
 use Rattle.stored.proofs.Rules.{every_all}
@@ -108,7 +108,7 @@ in_order_same (suc n) f g h = ap₂ ◌∷◌ (h 0 (omega arith)) (in_order_same
 -- the rows that are copied, zero past the last cycle, are the node's table
 pub table_is : {nodes columns columns' words words' : List ℕ} {count n : ℕ} → Given nodes count n columns words → (cycles : List ℕ) → Inside n cycles
     → columns' ≡ with_names columns cycles → Tables (node_at nodes) count n columns' words' → length words' ≡ length words
-    → (node : ℕ) → node < count → sort_of requirement_sorts (node_at nodes node).op ≡ 2
+    → (node : ℕ) → node < count → sort_of requirement_sorts (node_at nodes node).op ≡ formula
     → in_order 64 (earlier n 0 (row_at words' node)) ≡ table_of (node_at nodes) (trace_of n columns) node (standing cycles)
 unfolding table_of
 table_is {nodes} {columns} {columns'} {words} {words'} {count} {n} g cycles i e t same node h sort =

@@ -1,12 +1,12 @@
 -- A node copied by the map stands for the node of the sheet.
 use Prim.Native.Nat.{ℕ, suc, ◌+◌, ◌*◌, ◌/◌, ◌≤◌, ◌<◌}
-use mathlib.Core.Bool.{Bool, true, false, cond, ◌&&◌, ◌||◌, true≢false}
+use mathlib.Core.Bool.{Bool, true, false, not, cond, ◌&&◌, ◌||◌, true≢false}
 use mathlib.Core.List.{List}
 use mathlib.Core.Logic.{inl, inr}
 use Rattle.std.specs.Prelude.{◌≢◌}
 use mathlib.Core.Path.{◌≡◌, refl, sym, ◌∙◌, ap, subst}
 use native.Mathlib.Omega.{arith}
-use borrow.Author.Tests.{leb-true, eqb-true, eqb-false, ne_eqb, ltb-true}
+use borrow.Author.Tests.{leb-true, eqb-true, eqb-false, ltb-true}
 use lib.Dec.{leb, ltb, eqb}
 use lib.ListN.{length, get_or, set, get_or-eq_default}
 use lib.Seq.{get_or-set_same, get_or-set_other}
@@ -16,14 +16,18 @@ use Rattle.semantics.specs.Cycles.{count_below}
 use Rattle.semantics.specs.Translation.{undrawn}
 use Rattle.semantics.proofs.Tests.{test, and_left, and_right}
 use Rattle.semantics.proofs.Cycles.{count_most}
+use Rattle.std.proofs.Common.{Option, Some, None}
+use Rattle.std.specs.Option.{is_some}
 use Rattle.stored.specs.declared.Node.{Node}
+use Rattle.stored.specs.declared.nodes.Sort.{Sort}
 use Rattle.stored.specs.Bytes.{every_below}
-use Rattle.stored.specs.Node.{requirement_sorts, emitted_sorts, sort_of, q_use, a_use, b_use, node_at, field_right, fields_right, operands_right}
+use Rattle.stored.specs.Node.{proposition, formula, no_op, same_sort, requirement_sorts, emitted_sorts, sort_of, q_use, a_use, b_use, node_at, field_right, fields_right, operands_right}
 use Rattle.stored.specs.Tree.{symbol_of, FormulaOp, formula_op, proposition_at, formula_of, formula_at}
 use Rattle.stored.specs.Reach.{entry_of}
 use Rattle.stored.specs.Sheet.{header_of}
 use Rattle.stored.specs.Written.{NodeFits}
 use Rattle.stored.proofs.Rules.{every_number}
+use Rattle.stored.proofs.Sorts.{same_sort-true}
 use Rattle.stored.proofs.Tree.{formula_cases, operands, proposition_law, formula_law}
 use Rattle.plans.specs.Bound.{most_emitted, is_drawing, drawing_at}
 use Rattle.plans.specs.Emission.{count, Step, HasProposition, Has, Emits, Ready}
@@ -34,25 +38,29 @@ use Rattle.emission.proofs.Copies.{Given, some_sort, q_right, a_right, may_copy,
 use Rattle.emission.proofs.Drawings.{symbol_told, mark_told, gap_told}
 
 -- ---- sorts
-same_sort : ℕ → ℕ → ℕ → Bool
-same_sort k sort sort' = leb 27 k && leb k 29 || (eqb sort 0 || eqb sort' sort)
+sort_kept : ℕ → Option Sort → Option Sort → Bool
+sort_kept k sort sort' = leb 27 k && leb k 29 || (not (is_some sort) || same_sort sort' sort)
 
-same_sort_lem : (k : ℕ) → same_sort k (sort_of requirement_sorts k) (sort_of emitted_sorts k) ≡ true
-unfolding sort_of same_sort every_below
-same_sort_lem =
-    every_number 32 (λ k. same_sort k (sort_of requirement_sorts k) (sort_of emitted_sorts k)) refl
-    (λ k h. ap (λ (z : ℕ). same_sort k z (sort_of emitted_sorts k)) (get_or-eq_default requirement_sorts 0 h) ∙ past (leb 27 k && leb k 29))
+sort_kept_lem : (k : ℕ) → sort_kept k (sort_of requirement_sorts k) (sort_of emitted_sorts k) ≡ true
+unfolding sort_of same_sort sort_kept every_below
+sort_kept_lem =
+    every_number 32 (λ k. sort_kept k (sort_of requirement_sorts k) (sort_of emitted_sorts k)) refl
+    (λ k h. ap (λ (z : Option Sort). sort_kept k z (sort_of emitted_sorts k)) (get_or-eq_default requirement_sorts no_op h) ∙ past (leb 27 k && leb k 29))
   where
     past : (a : Bool) → (a || true) ≡ true
     past true = refl
     past false = refl
 
 -- an op of kind 1 that is no drawing has the same sort in kind 2
-sort_copied : (n : Node) → is_drawing n ≡ false → (sort_of requirement_sorts n.op ≡ 0 → ⊥) → sort_of emitted_sorts n.op ≡ sort_of requirement_sorts n.op
-unfolding same_sort is_drawing
+sort_copied : (n : Node) → is_drawing n ≡ false → (sort_of requirement_sorts n.op ≡ no_op → ⊥) → sort_of emitted_sorts n.op ≡ sort_of requirement_sorts n.op
+unfolding sort_kept is_drawing
 sort_copied n e some =
-    eqb-true _ _ (left (leb 27 n.op && leb n.op 29) (eqb (sort_of requirement_sorts n.op) 0) _ e (ne_eqb _ 0 some) (same_sort_lem n.op))
+    same_sort-true _ _ (left (leb 27 n.op && leb n.op 29) (not (is_some (sort_of requirement_sorts n.op))) _ e (known (sort_of requirement_sorts n.op) some) (sort_kept_lem n.op))
   where
+    known : (sort : Option Sort) → (sort ≡ no_op → ⊥) → not (is_some sort) ≡ false
+    known None h = absurd (h refl)
+    known (Some sort) h = refl
+
     left : (a b c : Bool) → a ≡ false → b ≡ false → (a || (b || c)) ≡ true → c ≡ true
     left true b c p q r = absurd (true≢false p)
     left false true c p q r = absurd (true≢false q)
@@ -103,7 +111,7 @@ undrawn_alike n p f k =
     (λ other d. ap (λ (o : FormulaOp). formula_of o n p (λ i. undrawn (f i))) other ∙ sym (ap (λ (o : FormulaOp). undrawn (formula_of o n p f)) other))
 
 copied_stands : {x : ℕ → Node} {i : ℕ} {y z map : List ℕ} {r : ℕ} → operands_right requirement_sorts x i ≡ true
-    → (sort_of requirement_sorts (x i).op ≡ 0 → ⊥) → is_drawing (x i) ≡ false
+    → (sort_of requirement_sorts (x i).op ≡ no_op → ⊥) → is_drawing (x i) ≡ false
     → Given y map (proposition_at x) (undrawn_at x) (a_use (x i).op) (x i).a → Given y map (proposition_at x) (undrawn_at x) (b_use (x i).op) (x i).b
     → Added y z r (copied_node map (x i)) → Stands x i z r
 unfolding undrawn_at UndrawnAlike is_drawing
@@ -135,7 +143,7 @@ drawing_cases P p q r n e =
     ]
 
 DrawnAlike : Node → (ℕ → Proposition) → (ℕ → Formula) → ℕ → Type 0
-DrawnAlike n p f k = (sort_of requirement_sorts k ≡ 2) × (formula_of (formula_op k) n no_propositions no_formulas ≡ formula_of (formula_op k) n p f)
+DrawnAlike n p f k = (sort_of requirement_sorts k ≡ formula) × (formula_of (formula_op k) n no_propositions no_formulas ≡ formula_of (formula_op k) n p f)
 
 drawn_alike : (n : Node) (p : ℕ → Proposition) (f : ℕ → Formula) → is_drawing n ≡ true → DrawnAlike n p f n.op
 unfolding DrawnAlike sort_of formula_of formula_op
@@ -147,7 +155,7 @@ unfolding drawing_of DrawnAlike
 drawing_stands {x} {i} kept drawing e =
     let alike = drawn_alike (x i) (proposition_at x) (formula_at x) drawing in
     record {
-      proposition = λ s. absurd (omega (arith, alike.0));
+      proposition = λ s. let other : proposition ≡ formula = sym s ∙ alike.0 in cc;
       formula =
           λ s. record {
             below = e.has.below;

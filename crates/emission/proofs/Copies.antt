@@ -1,22 +1,25 @@
 -- A node copied by a map of its operands, whatever the sorts that its rules went by: it may come next, and is what it was over the nodes that
 -- the map gives.
 use Prim.Native.Nat.{ℕ, ◌+◌, ◌*◌, ◌<◌}
-use mathlib.Core.Bool.{Bool, true, false, not, ◌&&◌, ◌||◌, true≢false, false≢true}
+use mathlib.Core.Bool.{Bool, true, false, not, ◌&&◌, ◌||◌, true≢false}
 use mathlib.Core.List.{List}
 use mathlib.Core.Logic.{inl, inr}
 use mathlib.Core.Path.{◌≡◌, refl, sym, ◌∙◌, ap, ap₂}
 use native.Mathlib.Omega.{arith}
-use borrow.Author.Tests.{ne_eqb, eq-eqb}
+use borrow.Author.Tests.{ne_eqb}
 use lib.Dec.{leb, eqb}
 use lib.ListN.{get_or}
 use Rattle.semantics.specs.Proposition.{Proposition, negated, both_of, either_of}
 use Rattle.semantics.specs.Formula.{Formula, point, stretch, whole, unit, chop, conjunction, disjunction, star, scount, sdur, negation, for_some}
 use Rattle.semantics.proofs.Tests.{test, and_left, and_right, and_intro}
+use Rattle.std.proofs.Common.{Option}
+use Rattle.std.specs.Option.{is_some}
 use Rattle.stored.specs.declared.Node.{Node}
+use Rattle.stored.specs.declared.nodes.Sort.{Sort}
 use Rattle.stored.specs.declared.nodes.Use.{Use}
 use Rattle.stored.specs.declared.nodes.Use.TheVariants.{Nothing, Signal, Name, Comparison, Symbol, TwoNames, Number, PropositionNode, FormulaNode}
 use Rattle.stored.specs.Bytes.{word}
-use Rattle.stored.specs.Node.{emitted_sorts, sort_of, q_use, a_use, b_use, is_operand, node_at, field_right, fields_right, operand_right}
+use Rattle.stored.specs.Node.{proposition, formula, no_op, emitted_sorts, sort_of, q_use, a_use, b_use, is_operand, node_at, field_right, fields_right, operand_right}
 use Rattle.stored.specs.Tree.{comparison_of, PropositionOp, FormulaOp, proposition_op, formula_op, proposition_of, formula_of}
 use Rattle.stored.specs.Reach.{entry_of}
 use Rattle.stored.specs.Sheet.{header_of}
@@ -90,22 +93,18 @@ module _ {y map : List ℕ} {p : ℕ → Proposition} {f : ℕ → Formula} (wha
       ]
 
 -- rule 6, opened
-module _ (sorts : List ℕ) (s m : ℕ) (n : Node) (right : fields_right sorts s m n ≡ true) where
-  pub some_sort : sort_of sorts n.op ≡ 0 → ⊥
+module _ (sorts : List (Option Sort)) (s m : ℕ) (n : Node) (right : fields_right sorts s m n ≡ true) where
+  pub some_sort : sort_of sorts n.op ≡ no_op → ⊥
   unfolding fields_right
-  some_sort e = go (eqb (sort_of sorts n.op) 0) (eq-eqb _ 0 e) (and_left (not (eqb (sort_of sorts n.op) 0)) _ right)
-    where
-      go : (b : Bool) → b ≡ true → not b ≡ true → ⊥
-      go true p q = true≢false (sym q)
-      go false p q = false≢true p
+  some_sort e = true≢false (sym (and_left (is_some (sort_of sorts n.op)) _ right) ∙ ap is_some e)
 
   pub q_right : field_right s m (q_use n.op) n.q ≡ true
   unfolding fields_right
-  q_right = and_left (field_right s m (q_use n.op) n.q) _ (and_right (not (eqb (sort_of sorts n.op) 0)) _ right)
+  q_right = and_left (field_right s m (q_use n.op) n.q) _ (and_right (is_some (sort_of sorts n.op)) _ right)
 
   ab_right : (field_right s m (a_use n.op) n.a && (field_right s m (b_use n.op) n.b && (not (eqb n.op 29) || leb n.a n.b))) ≡ true
   unfolding fields_right
-  ab_right = and_right (field_right s m (q_use n.op) n.q) _ (and_right (not (eqb (sort_of sorts n.op) 0)) _ right)
+  ab_right = and_right (field_right s m (q_use n.op) n.q) _ (and_right (is_some (sort_of sorts n.op)) _ right)
 
   pub a_right : field_right s m (a_use n.op) n.a ≡ true
   a_right = and_left (field_right s m (a_use n.op) n.a) _ ab_right
@@ -114,7 +113,7 @@ module _ (sorts : List ℕ) (s m : ℕ) (n : Node) (right : fields_right sorts s
   b_right = and_left (field_right s m (b_use n.op) n.b) _ (and_right (field_right s m (a_use n.op) n.a) _ ab_right)
 
 -- ---- the copy may come next
-pub may_copy : {y map : List ℕ} {p : ℕ → Proposition} {f : ℕ → Formula} (sorts : List ℕ) (n : Node) → Good y → count y < most_emitted → NodeFits n
+pub may_copy : {y map : List ℕ} {p : ℕ → Proposition} {f : ℕ → Formula} (sorts : List (Option Sort)) (n : Node) → Good y → count y < most_emitted → NodeFits n
     → sort_of emitted_sorts n.op ≡ sort_of sorts n.op → (n.op ≡ 29 → ⊥)
     → fields_right sorts (header_of y).signals (header_of y).names n ≡ true
     → Given y map p f (a_use n.op) n.a → Given y map p f (b_use n.op) n.b → Addable y (copied_node map n)
@@ -133,7 +132,7 @@ may_copy {y} {map} sorts n good room fits sort no_gap right a b =
             b_fits = given_fits (b_use n.op) n.b b good fits.b_fits;
           };
       right =
-          and_intro _ _ (ap (λ (z : ℕ). not (eqb z 0)) sort ∙ ap not (ne_eqb _ 0 (some_sort sorts s m n right)))
+          and_intro _ _ (ap is_some sort ∙ and_left (is_some (sort_of sorts n.op)) _ right)
           (and_intro _ _ (q_right sorts s m n right)
           (and_intro _ _ (given_right (a_use n.op) n.a a s m (a_right sorts s m n right))
           (and_intro _ _ (given_right (b_use n.op) n.b b s m (b_right sorts s m n right))
@@ -199,7 +198,7 @@ copied_formula map n p p' f f' k =
 
 module _ {y z map : List ℕ} {r : ℕ} {p : ℕ → Proposition} {f : ℕ → Formula} (n : Node)
     (a : Given y map p f (a_use n.op) n.a) (b : Given y map p f (b_use n.op) n.b) (new : Added y z r (copied_node map n)) where
-  pub is_proposition_copied : sort_of emitted_sorts n.op ≡ 1 → HasProposition z r (proposition_of (proposition_op n.op) n p)
+  pub is_proposition_copied : sort_of emitted_sorts n.op ≡ proposition → HasProposition z r (proposition_of (proposition_op n.op) n p)
   unfolding copied_node copied_as CopiedProposition
   is_proposition_copied e =
       (new_proposition new _ e
@@ -208,7 +207,7 @@ module _ {y z map : List ℕ} {r : ℕ} {p : ℕ → Proposition} {f : ℕ → F
       (λ u. (proposition_kept new.step (b.proposition u)).tree))
       ).has
 
-  pub is_formula_copied : sort_of emitted_sorts n.op ≡ 2 → Has z r (formula_of (formula_op n.op) n p f)
+  pub is_formula_copied : sort_of emitted_sorts n.op ≡ formula → Has z r (formula_of (formula_op n.op) n p f)
   unfolding copied_node copied_as CopiedFormula
   is_formula_copied e =
       (new_formula new _ e

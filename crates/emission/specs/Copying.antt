@@ -7,7 +7,7 @@ use Rattle.semantics.specs.Translation.{nothing, undrawn}
 use Rattle.stored.specs.declared.Node.{Node}
 use Rattle.stored.specs.declared.nodes.Use.{Use}
 use Rattle.stored.specs.Layout.{node_size, most_nodes}
-use Rattle.stored.specs.Node.{requirement_sorts, sort_of, a_use, b_use, is_operand, node_at, fields_right, operands_right}
+use Rattle.stored.specs.Node.{proposition, formula, requirement_sorts, sort_of, a_use, b_use, is_operand, node_at, fields_right, operands_right}
 use Rattle.stored.specs.Tree.{proposition_at, formula_op, formula_of, formula_at}
 use Rattle.stored.specs.Reach.{entry_of}
 use Rattle.stored.specs.Sheet.{header_of}
@@ -18,8 +18,8 @@ use Rattle.plans.specs.Plan.{Put, Wrote}
 
 -- node r stands for node i of the sheet, its drawings told by other formulas
 pub record Stands (x : ℕ → Node) (i : ℕ) (y : List ℕ) (r : ℕ) : Type 0 where
-  pub proposition : sort_of requirement_sorts (x i).op ≡ 1 → HasProposition y r (proposition_at x i)
-  pub formula : sort_of requirement_sorts (x i).op ≡ 2 → Has y r (undrawn (formula_at x i))
+  pub proposition : sort_of requirement_sorts (x i).op ≡ proposition → HasProposition y r (proposition_at x i)
+  pub formula : sort_of requirement_sorts (x i).op ≡ formula → Has y r (undrawn (formula_at x i))
 
 -- the map gives the nodes that stand for the first i
 abbrev pub Mapped : (ℕ → Node) → ℕ → List ℕ → List ℕ → Type 0

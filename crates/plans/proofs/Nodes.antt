@@ -4,16 +4,18 @@ use mathlib.Core.Bool.{true}
 use mathlib.Core.List.{List}
 use mathlib.Core.Path.{◌≡◌, refl, ◌∙◌, ap, ap₂}
 use native.Mathlib.Omega.{arith}
-use borrow.Author.Tests.{lt-ltb, eq-eqb}
-use lib.Dec.{eqb}
+use borrow.Author.Tests.{lt-ltb}
 use Rattle.semantics.specs.Proposition.{Proposition, signal, name, negated}
 use Rattle.semantics.specs.Formula.{Formula, point, stretch, unit, chop, conjunction, disjunction, slen, scount, negation, for_some, equal}
+use Rattle.std.proofs.Common.{Option}
 use Rattle.stored.specs.declared.Node.{Node}
+use Rattle.stored.specs.declared.nodes.Sort.{Sort}
 use Rattle.stored.specs.declared.nodes.Use.TheVariants.{PropositionNode, FormulaNode}
-use Rattle.stored.specs.Node.{emitted_sorts, sort_of, sort_below, q_use, a_use, b_use, field_right, fields_right, operand_right}
+use Rattle.stored.specs.Node.{proposition, formula, same_sort, emitted_sorts, sort_of, sort_below, q_use, a_use, b_use, field_right, fields_right, operand_right}
 use Rattle.stored.specs.Tree.{proposition_op, formula_op, proposition_of, formula_of, comparison_of}
 use Rattle.stored.specs.Sheet.{header_of}
 use Rattle.stored.specs.Written.{node_in}
+use Rattle.stored.proofs.Sorts.{sort_same}
 use Rattle.stored.proofs.Tree.{proposition_law, formula_law}
 use Rattle.plans.specs.Bound.{most_emitted}
 use Rattle.plans.specs.Emission.{count, proposition_in, formula_in, Good, Step, HasProposition, Has, Emits}
@@ -26,24 +28,24 @@ pub record EmitsProposition (x y : List ℕ) (r k : ℕ) (p : Proposition) : Typ
   pub has : HasProposition y r p
 
 -- ---- operands
-sort_is : (y : List ℕ) (a k : ℕ) → a < count y → sort_of emitted_sorts (node_in y a).op ≡ k → eqb (sort_below emitted_sorts (node_in y) (count y) a) k ≡ true
+sort_is : (y : List ℕ) (a : ℕ) (sort : Option Sort) → a < count y → sort_of emitted_sorts (node_in y a).op ≡ sort → same_sort (sort_below emitted_sorts (node_in y) (count y) a) sort ≡ true
 unfolding sort_below
-sort_is y a k h e = rw (lt-ltb a (count y) h) (eq-eqb _ k e)
+sort_is y a sort h e = rw (lt-ltb a (count y) h) (sort_same _ sort e)
 
 pub of_formula : {y : List ℕ} {a : ℕ} {f : Formula} → Has y a f → operand_right emitted_sorts (node_in y) (count y) FormulaNode a ≡ true
 unfolding operand_right
-of_formula {y} {a} h = sort_is y a 2 h.below h.sorted
+of_formula {y} {a} h = sort_is y a formula h.below h.sorted
 
 pub of_proposition : {y : List ℕ} {a : ℕ} {p : Proposition} → HasProposition y a p → operand_right emitted_sorts (node_in y) (count y) PropositionNode a ≡ true
 unfolding operand_right
-of_proposition {y} {a} h = sort_is y a 1 h.below h.sorted
+of_proposition {y} {a} h = sort_is y a proposition h.below h.sorted
 
 -- ---- the tree of a new node
 module _ {x y : List ℕ} {r : ℕ} {n : Node} (new : Added x y r n) where
   new_below : r < count y
   new_below = omega (arith, new.exact, new.place)
 
-  pub new_proposition : (p : Proposition) → sort_of emitted_sorts n.op ≡ 1
+  pub new_proposition : (p : Proposition) → sort_of emitted_sorts n.op ≡ proposition
       → proposition_of (proposition_op n.op) n (proposition_in y) ≡ p → EmitsProposition x y r 1 p
   unfolding proposition_in
   new_proposition p s e =
@@ -60,7 +62,7 @@ module _ {x y : List ℕ} {r : ℕ} {n : Node} (new : Added x y r n) where
             };
       }
 
-  pub new_formula : (f : Formula) → sort_of emitted_sorts n.op ≡ 2
+  pub new_formula : (f : Formula) → sort_of emitted_sorts n.op ≡ formula
       → formula_of (formula_op n.op) n (proposition_in y) (formula_in y) ≡ f → Emits x y r 1 f
   unfolding proposition_in formula_in
   new_formula f s e =
@@ -95,7 +97,7 @@ module _ {x : List ℕ} (good : Good x) (room : count x < most_emitted) where
   -- two formulas
   pair_new : {y : List ℕ} {r a b : ℕ} {f g : Formula} (op : ℕ) (t : Formula → Formula → Formula) → op < 256
       → fields_right emitted_sorts (header_of x).signals (header_of x).names (node op 0 a b) ≡ true → a_use op ≡ FormulaNode → b_use op ≡ FormulaNode
-      → sort_of emitted_sorts op ≡ 2 → ((p : ℕ → Proposition) (h : ℕ → Formula) → formula_of (formula_op op) (node op 0 a b) p h ≡ t (h a) (h b))
+      → sort_of emitted_sorts op ≡ formula → ((p : ℕ → Proposition) (h : ℕ → Formula) → formula_of (formula_op op) (node op 0 a b) p h ≡ t (h a) (h b))
       → Has x a f → Has x b g → Put (node op 0 a b) x y r → Emits x y r 1 (t f g)
   pair_new {y} {a = a} {b = b} op t o right i j sort made h k put =
       let first = of_formula h in
@@ -133,7 +135,7 @@ module _ {x : List ℕ} (good : Good x) (room : count x < most_emitted) where
   -- one proposition
   over_new : {y : List ℕ} {r a : ℕ} {p : Proposition} (op q b : ℕ) (t : Proposition → Formula) → op < 256 → q < 256 → b < 65536
       → fields_right emitted_sorts (header_of x).signals (header_of x).names (node op q a b) ≡ true → a_use op ≡ PropositionNode
-      → operand_right emitted_sorts (node_in x) (count x) (b_use op) b ≡ true → sort_of emitted_sorts op ≡ 2
+      → operand_right emitted_sorts (node_in x) (count x) (b_use op) b ≡ true → sort_of emitted_sorts op ≡ formula
       → ((h : ℕ → Proposition) (f : ℕ → Formula) → formula_of (formula_op op) (node op q a b) h f ≡ t (h a))
       → HasProposition x a p → Put (node op q a b) x y r → Emits x y r 1 (t p)
   over_new {y} {a = a} op q b t o i j right uses k sort made h put =

@@ -11,13 +11,15 @@ use lib.ListN.{length, get_or, drop}
 use Rattle.semantics.specs.Proposition.{Proposition}
 use Rattle.semantics.specs.Formula.{Formula}
 use Rattle.semantics.proofs.Tests.{test, and_intro, and_left, and_right}
+use Rattle.std.proofs.Common.{Option}
 use Rattle.stored.specs.declared.Node.{Node}
+use Rattle.stored.specs.declared.nodes.Sort.{Sort}
 use Rattle.stored.specs.declared.nodes.Use.{Use}
 use Rattle.stored.specs.declared.nodes.Use.TheVariants.{Nothing, Signal, Name, Comparison, Symbol, TwoNames, Number, PropositionNode, FormulaNode}
 use Rattle.stored.specs.declared.Header.{Header}
 use Rattle.stored.specs.Bytes.{word}
 use Rattle.stored.specs.Layout.{emitted_kind, nodes_start, nodes_end, following, least_output}
-use Rattle.stored.specs.Node.{emitted_sorts, sort_of, sort_below, a_use, b_use, fields_right, operand_right, operands_right}
+use Rattle.stored.specs.Node.{proposition, formula, no_op, same_sort, emitted_sorts, sort_of, sort_below, a_use, b_use, fields_right, operand_right, operands_right}
 use Rattle.stored.specs.Sheet.{header_of}
 use Rattle.stored.specs.Written.{node_in, NodeFits, put_node, put_header, header_bytes}
 use Rattle.stored.proofs.Written.{put_length, put_back, put_read, put_other, header_length, header_back, header_nodes, header_byte, header_read, header_rest}
@@ -115,14 +117,14 @@ sort_same : (x y : ℕ → Node) (i v : ℕ) → ((k : ℕ) → k < i → y k �
 unfolding sort_below
 sort_same x y i v h = go (ltb v i) (λ e. h v (ltb-true v i e))
   where
-    go : (b : Bool) → (b ≡ true → y v ≡ x v) → cond b (sort_of emitted_sorts (y v).op) 0 ≡ cond b (sort_of emitted_sorts (x v).op) 0
+    go : (b : Bool) → (b ≡ true → y v ≡ x v) → cond b (sort_of emitted_sorts (y v).op) no_op ≡ cond b (sort_of emitted_sorts (x v).op) no_op
     go true e = ap (λ (n : Node). sort_of emitted_sorts n.op) (e refl)
     go false e = refl
 
 operand_same : (x y : ℕ → Node) (i : ℕ) (what : Use) (v : ℕ) → ((k : ℕ) → k < i → y k ≡ x k) → operand_right emitted_sorts y i what v ≡ operand_right emitted_sorts x i what v
 unfolding operand_right
-operand_same x y i PropositionNode v h = ap (λ (sort : ℕ). eqb sort 1) (sort_same x y i v h)
-operand_same x y i FormulaNode v h = ap (λ (sort : ℕ). eqb sort 2) (sort_same x y i v h)
+operand_same x y i PropositionNode v h = ap (λ (sort : Option Sort). same_sort sort proposition) (sort_same x y i v h)
+operand_same x y i FormulaNode v h = ap (λ (sort : Option Sort). same_sort sort formula) (sort_same x y i v h)
 operand_same x y i Nothing v h = refl
 operand_same x y i Signal v h = refl
 operand_same x y i Name v h = refl

@@ -4,7 +4,7 @@ use Rattle.semantics.specs.Proposition.{Proposition, name}
 use Rattle.semantics.specs.Formula.{Formula, equal, scount}
 use Rattle.semantics.specs.Translation.{anywhere, extended, nothing}
 use Rattle.stored.specs.Bytes.{word}
-use Rattle.stored.specs.Node.{emitted_sorts, sort_of, fields_right, operands_right}
+use Rattle.stored.specs.Node.{proposition, formula, emitted_sorts, sort_of, fields_right, operands_right}
 use Rattle.stored.specs.Tree.{proposition_at, formula_at}
 use Rattle.stored.specs.Sheet.{header_of}
 use Rattle.stored.specs.Layout.{emitted_kind, nodes_end, following, most_signals, most_names, least_output}
@@ -49,12 +49,12 @@ pub record Step (x y : List ℕ) (k : ℕ) : Type 0 where
 -- node a is proposition p, or formula f
 pub record HasProposition (y : List ℕ) (a : ℕ) (p : Proposition) : Type 0 where
   pub below : a < count y
-  pub sorted : sort_of emitted_sorts (node_in y a).op ≡ 1
+  pub sorted : sort_of emitted_sorts (node_in y a).op ≡ proposition
   pub tree : proposition_in y a ≡ p
 
 pub record Has (y : List ℕ) (a : ℕ) (f : Formula) : Type 0 where
   pub below : a < count y
-  pub sorted : sort_of emitted_sorts (node_in y a).op ≡ 2
+  pub sorted : sort_of emitted_sorts (node_in y a).op ≡ formula
   pub tree : formula_in y a ≡ f
 
 -- x became y by at most k new nodes, and node r is formula f

@@ -2,7 +2,7 @@
 use Rattle.std.specs.Prelude.{ℕ, ◌+◌, ◌≤◌, ◌<◌, Bool, true, false, cond, ◌&&◌, List, ◌≡◌, ltb, length, get_or, set}
 use Rattle.stored.specs.declared.Node.{Node}
 use Rattle.stored.specs.declared.nodes.Use.{Use}
-use Rattle.stored.specs.Node.{emitted_sorts, sort_of, is_operand, a_use, b_use}
+use Rattle.stored.specs.Node.{proposition, formula, emitted_sorts, sort_of, is_operand, a_use, b_use}
 use Rattle.stored.specs.Tree.{proposition_at, formula_at}
 use Rattle.stored.specs.Reached.{has_operand, Reached}
 use Rattle.stored.specs.Sheet.{header_of}
@@ -38,8 +38,8 @@ pub record MarkedFrom (x : ℕ → Node) (root i : ℕ) (marks : List Bool) : Ty
 -- ---- the nodes kept
 -- node r is what node i of x is
 pub record Same (x : ℕ → Node) (i : ℕ) (y : List ℕ) (r : ℕ) : Type 0 where
-  pub proposition : sort_of emitted_sorts (x i).op ≡ 1 → HasProposition y r (proposition_at x i)
-  pub formula : sort_of emitted_sorts (x i).op ≡ 2 → Has y r (formula_at x i)
+  pub proposition : sort_of emitted_sorts (x i).op ≡ proposition → HasProposition y r (proposition_at x i)
+  pub formula : sort_of emitted_sorts (x i).op ≡ formula → Has y r (formula_at x i)
 
 -- x became y by the nodes of d that its root reaches, of which the last is r
 pub record PrunedTo (d : List ℕ) (root : ℕ) (x y : List ℕ) (r : ℕ) : Type 0 where

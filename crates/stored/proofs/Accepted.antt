@@ -18,14 +18,15 @@ use Rattle.stored.specs.declared.StoredClause.{StoredClause}
 use Rattle.stored.specs.declared.Header.{Header}
 use Rattle.stored.specs.declared.refusal.Refusal.{Refusal}
 use Rattle.stored.specs.Bytes.{in_order}
-use Rattle.stored.specs.Node.{requirement_sorts, is_formula_node, node_right}
-use Rattle.stored.specs.Tree.{formula_at}
+use Rattle.stored.specs.Node.{requirement_sorts, is_formula_node, node_right, formula}
+use Rattle.stored.specs.Tree.{formula_at, pick}
 use Rattle.stored.specs.Refusal.{number_of}
 use Rattle.std.specs.Prelude.{Ok, Err}
 use Rattle.stored.specs.Clause.{last_role, parts_used, part_right, clause_right, part_named, clause_named, clause_right_at, clause_named_at, type_of, part_of, clause_of}
 use Rattle.stored.specs.Sheet.{header_of, node_part, clause_part, nodes_of, stored_of, counted, sized, nodes_right, operands_found, clauses_right, clauses_named, sheet_rules, sheet_refusal, sheet_answer, clause_in, clauses_of}
 use Rattle.semantics.proofs.Tests.{and_left, and_right, and_intro}
 use Rattle.stored.proofs.Rules.{every_at, lowest_kept, Lowest, lowest_law}
+use Rattle.stored.proofs.Sorts.{same_sort-true}
 use Rattle.stored.proofs.Tree.{Earlier, sort_below_lem}
 use Rattle.stored.proofs.Reach.{NodesKept, bit_listed}
 use Rattle.stored.proofs.Refusals.{of_value, of_refusal}
@@ -130,7 +131,7 @@ length_clauses s o =
 
 -- a part that rules 8 and 9 take
 pub record PartKept (x : ℕ → Node) (n m : ℕ) (used : Bool) (root mask : ℕ) : Type 0 where
-  pub root_found : used ≡ true → Earlier requirement_sorts x n root 2
+  pub root_found : used ≡ true → Earlier requirement_sorts x n root formula
   pub small : mask < 2 ^ m
   pub named : used ≡ true → within (bit mask) (formula_at x root) ≡ true
 
@@ -138,7 +139,7 @@ part_kept : (x : ℕ → Node) (n m : ℕ) (used : Bool) (root mask : ℕ) → p
 unfolding part_right part_named is_formula_node
 part_kept x n m true root mask e f =
     record {
-      root_found = λ u. sort_below_lem requirement_sorts x n root 2 (omega arith) (eqb-true _ 2 e);
+      root_found = λ u. sort_below_lem requirement_sorts x n root formula refl (same_sort-true _ formula e);
       small = ltb-true mask (2 ^ m) (and_left (ltb mask (2 ^ m)) _ f);
       named = λ u. and_right (ltb mask (2 ^ m)) _ f;
     }

@@ -3,8 +3,7 @@ use Prim.Native.Nat.{ℕ, ◌^◌, ◌≤◌}
 use mathlib.Core.Bool.{Bool, true, false, ◌&&◌}
 use mathlib.Core.List.{List}
 use mathlib.Core.Path.{◌≡◌, refl, sym, ◌∙◌, ap, ap₂}
-use native.Mathlib.Omega.{arith}
-use borrow.Author.Tests.{ltb-true, leb-true, eqb-true}
+use borrow.Author.Tests.{ltb-true, leb-true}
 use lib.Dec.{leb, ltb, eqb}
 use lib.ListN.{length}
 use Rattle.semantics.specs.Proposition.{bit}
@@ -14,7 +13,7 @@ use Rattle.stored.specs.declared.StoredClause.{StoredClause}
 use Rattle.std.specs.Prelude.{Ok, Err}
 use Rattle.stored.specs.declared.refusal.Refusal.TheVariants.{SheetNotFramed, UnknownSheetVersion, NotARequirement, CountOutOfRange, WrongSheetLength, InvalidNode, InvalidOperand, InvalidClause, UnlistedName}
 use Rattle.stored.specs.Bytes.{framed_from, every_below, lowest}
-use Rattle.stored.specs.Node.{requirement_sorts, is_formula_node, node_right}
+use Rattle.stored.specs.Node.{formula, requirement_sorts, is_formula_node, node_right}
 use Rattle.stored.specs.Tree.{pick, formula_at}
 use Rattle.stored.specs.Refusal.{refusals, refusal_numbered, answered}
 use Rattle.stored.specs.Reach.{joint, reach_at, reach_table, entry_of}
@@ -22,6 +21,7 @@ use Rattle.stored.specs.Clause.{last_role, parts_used, part_right, clause_right,
 use Rattle.stored.specs.Sheet.{header_of, nodes_of, stored_of, framed, versioned, of_kind_one, counted, sized, nodes_right, operands_found, clauses_right, clauses_named, sheet_rules, sheet_refusal, sheet_answer}
 use Rattle.semantics.proofs.Tests.{and_left, and_right}
 use Rattle.stored.proofs.Rules.{every_at, every_same}
+use Rattle.stored.proofs.Sorts.{same_sort-true}
 use Rattle.stored.proofs.Tree.{Earlier, sort_below_lem}
 use Rattle.stored.proofs.Reach.{NodesKept, reach_law, reach_small, covers_mask, table_at}
 use Rattle.stored.proofs.Accepted.{counts, mask_small}
@@ -92,8 +92,8 @@ part_covered_lem : (s m n : ℕ) (x : ℕ → Node) → NodesKept s m n x → n 
 unfolding part_right part_covered part_named is_formula_node
 part_covered_lem s m n x kept few true root mask e = go (ltb mask (2 ^ m)) refl
   where
-    found : Earlier requirement_sorts x n root 2
-    found = sort_below_lem requirement_sorts x n root 2 (omega arith) (eqb-true _ 2 e)
+    found : Earlier requirement_sorts x n root formula
+    found = sort_below_lem requirement_sorts x n root formula refl (same_sort-true _ formula e)
 
     go : (b : Bool) → ltb mask (2 ^ m) ≡ b → (b && eqb (joint (entry_of (reach_table x n) root) mask) mask) ≡ (b && within (bit mask) (formula_at x root))
     go false f = refl

@@ -7,13 +7,13 @@ use Rattle.semantics.specs.Proposition.{signal, bit}
 use Rattle.semantics.specs.Formula.{point}
 use Rattle.semantics.specs.Reach.{within, proposition_within}
 use Rattle.stored.specs.Bytes.{word, framed_from, every_below, in_order, lowest}
-use Rattle.stored.specs.Node.{node_at, sort_of, q_use, a_use, b_use, field_right, fields_right, node_right, sort_below, operand_right, operands_right, is_formula_node}
+use Rattle.stored.specs.Node.{node_at, same_sort, sort_of, q_use, a_use, b_use, field_right, fields_right, node_right, sort_below, operand_right, operands_right, is_formula_node}
 use Rattle.stored.specs.Tree.{pick, earlier, deep, made, proposition_op, formula_op, proposition_of, proposition_step, proposition_at, formula_of, formula_step, formula_at}
 use Rattle.stored.specs.Clause.{stored_at, parts_used, part_right, clause_right, part_named, clause_named, clause_right_at, clause_named_at}
 use Rattle.stored.specs.Sheet.{header_of, node_part, clause_part, nodes_of, stored_of, framed, versioned, of_kind_one, counted, sized, nodes_right, operands_found, clauses_right, clauses_named, sheet_rules, sheet_refusal}
 
 unfoldable computing : ℕ
-unfolding word framed_from every_below in_order lowest node_at sort_of q_use a_use b_use field_right fields_right node_right sort_below operand_right operands_right is_formula_node pick earlier deep made proposition_op formula_op proposition_of proposition_step proposition_at formula_of formula_step formula_at stored_at parts_used part_right clause_right part_named clause_named clause_right_at clause_named_at header_of node_part clause_part nodes_of stored_of framed versioned of_kind_one counted sized nodes_right operands_found clauses_right clauses_named sheet_rules sheet_refusal within proposition_within bit
+unfolding word framed_from every_below in_order lowest node_at same_sort sort_of q_use a_use b_use field_right fields_right node_right sort_below operand_right operands_right is_formula_node pick earlier deep made proposition_op formula_op proposition_of proposition_step proposition_at formula_of formula_step formula_at stored_at parts_used part_right clause_right part_named clause_named clause_right_at clause_named_at header_of node_part clause_part nodes_of stored_of framed versioned of_kind_one counted sized nodes_right operands_found clauses_right clauses_named sheet_rules sheet_refusal within proposition_within bit
 computing = 0
 
 abbrev sheet : List ℕ

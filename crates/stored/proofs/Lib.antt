@@ -2,6 +2,7 @@
 pub mod Rules
 pub mod Made
 pub mod Entries
+pub mod Sorts
 pub mod Tree
 pub mod Reach
 pub mod NameSets

@@ -1,11 +1,11 @@
 -- The reach mask of a node of a kind 1 sheet is the set of the names of its tree.
 use Prim.Native.Nat.{ℕ, zero, suc, ◌/◌, ◌%◌, ◌^◌, ◌≤◌, ◌<◌}
-use mathlib.Core.Bool.{Bool, true, false, not, cond, ◌&&◌, ◌||◌, beq}
+use mathlib.Core.Bool.{Bool, true, false, not, ◌&&◌, ◌||◌, beq}
 use mathlib.Core.List.{List, [], ◌∷◌}
 use mathlib.Core.Path.{◌≡◌, refl, sym, ◌∙◌, ap, ap₂, subst, fun_ext}
 use native.Mathlib.Nat.{pow-le-pow_right, div-eq_of_lt}
 use native.Mathlib.Omega.{arith}
-use borrow.Author.Tests.{ltb-true, ltb-false, eq-eqb}
+use borrow.Author.Tests.{ltb-true, ltb-false}
 use lib.Bits.{or_zero_l, or_zero_r, or_lt}
 use lib.Dec.{eqb, ltb}
 use lib.ListN.{get_or, get_or-eq_default}
@@ -14,14 +14,15 @@ use Rattle.semantics.specs.Formula.{Formula}
 use Rattle.semantics.specs.Placement.{Names, listed}
 use Rattle.semantics.specs.Reach.{proposition_within, within}
 use Rattle.stored.specs.declared.Node.{Node}
+use Rattle.std.specs.Option.{is_some}
 use Rattle.stored.specs.declared.nodes.Use.{Use}
 use Rattle.stored.specs.declared.nodes.Use.TheVariants.{Nothing, Signal, Name, Comparison, Symbol, TwoNames, Number, PropositionNode, FormulaNode}
 use Rattle.stored.specs.Bytes.{every_below}
-use Rattle.stored.specs.Node.{requirement_sorts, sort_of, q_use, a_use, b_use, is_operand, field_right, fields_right, operands_right}
+use Rattle.stored.specs.Node.{proposition, formula, requirement_sorts, sort_of, q_use, a_use, b_use, is_operand, field_right, fields_right, operands_right}
 use Rattle.stored.specs.Tree.{earlier, proposition_op, formula_op, proposition_of, proposition_at, formula_of, formula_at}
 use Rattle.stored.specs.Reach.{joint, name_mask, field_reach, node_reach, reach_step, reach_at, covers, reach_table, entry_of}
 use Rattle.semantics.proofs.Tests.{and_left, and_right}
-use Rattle.stored.proofs.Rules.{asked, every_at, every_number, get_or_in_order}
+use Rattle.stored.proofs.Rules.{every_at, every_number, get_or_in_order}
 use Rattle.stored.proofs.Made.{earlier_at, made_step}
 use Rattle.stored.proofs.Tree.{operands, proposition_cases, formula_cases, proposition_law, formula_law, is_proposition, is_formula}
 
@@ -162,7 +163,7 @@ module _ (names : Names) (s m : ℕ) (three : m ≤ 3) (n : Node) (r : ℕ → �
 
   Proposed : (ℕ → Proposition) → ℕ → Type 0
   Proposed p k =
-      sort_of requirement_sorts k ≡ 1
+      sort_of requirement_sorts k ≡ proposition
       → field_right s m (a_use k) n.a ≡ true
       → (a_use k ≡ PropositionNode → proposition_within names (p n.a) ≡ covers (r n.a) names)
       → (b_use k ≡ PropositionNode → proposition_within names (p n.b) ≡ covers (r n.b) names)
@@ -199,7 +200,7 @@ module _ (names : Names) (s m : ℕ) (three : m ≤ 3) (n : Node) (r : ℕ → �
 
   Formed : (ℕ → Proposition) → (ℕ → Formula) → ℕ → Type 0
   Formed p t k =
-      sort_of requirement_sorts k ≡ 2
+      sort_of requirement_sorts k ≡ formula
       → field_right s m (q_use k) n.q ≡ true
       → field_right s m (a_use k) n.a ≡ true
       → (a_use k ≡ PropositionNode → proposition_within names (p n.a) ≡ covers (r n.a) names)
@@ -234,8 +235,8 @@ module _ (names : Names) (s m : ℕ) (three : m ≤ 3) (n : Node) (r : ℕ → �
       (λ o e f g h i. none)
       (λ o e f g h i. named n.a (name_field s m n.a f))
       (λ o e f g h i. gapped (names_field s m n.q e))
-      (λ o e f g h i. absurd (omega arith))
-      (λ o e f g h i. absurd (omega arith))
+      (λ o e f g h i. cc)
+      (λ o e f g h i. cc)
       k
       (λ other o e f g h i. absurd (is_formula k o other))
 
@@ -246,8 +247,8 @@ pub record NodesKept (s m n : ℕ) (x : ℕ → Node) : Type 0 where
   pub operands_kept : (i : ℕ) → i < n → operands_right requirement_sorts x i ≡ true
 
 pub record Reached (names : Names) (x : ℕ → Node) (i : ℕ) : Type 0 where
-  pub of_proposition : sort_of requirement_sorts (x i).op ≡ 1 → proposition_within names (proposition_at x i) ≡ covers (reach_at x i) names
-  pub of_formula : sort_of requirement_sorts (x i).op ≡ 2 → within names (formula_at x i) ≡ covers (reach_at x i) names
+  pub of_proposition : sort_of requirement_sorts (x i).op ≡ proposition → proposition_within names (proposition_at x i) ≡ covers (reach_at x i) names
+  pub of_formula : sort_of requirement_sorts (x i).op ≡ formula → within names (formula_at x i) ≡ covers (reach_at x i) names
 
 module _ (s m n : ℕ) (x : ℕ → Node) (kept : NodesKept s m n x) (names : Names) where
   record Fields (i : ℕ) : Type 0 where
@@ -257,7 +258,7 @@ module _ (s m n : ℕ) (x : ℕ → Node) (kept : NodesKept s m n x) (names : Na
   fields_at : (i : ℕ) → i < n → Fields i
   unfolding fields_right
   fields_at i h =
-      let after = and_right (not (eqb (sort_of requirement_sorts (x i).op) 0)) _ (kept.fields i h) in
+      let after = and_right (is_some (sort_of requirement_sorts (x i).op)) _ (kept.fields i h) in
       let last = and_right (field_right s m (q_use (x i).op) (x i).q) _ after in
       record {
         q_right = and_left (field_right s m (q_use (x i).op) (x i).q) _ after;

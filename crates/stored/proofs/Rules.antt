@@ -167,3 +167,11 @@ each_between P low (suc many) e k l h =
       | inl s ↦ subst P (eqb-true low k s) e.0
       | inr s ↦ let other = eqb-false low k s in each_between P (suc low) many e.1 k (omega arith) (omega arith)
     ]
+
+-- and of each after them
+pub each_from : (P : ℕ → Type 0) (low many : ℕ) → Each P low many → ((k : ℕ) → low + many ≤ k → P k) → (k : ℕ) → low ≤ k → P k
+each_from P low many e past k l =
+    elim (test (ltb k (low + many))) [
+      | inl h ↦ each_between P low many e k l (borrow.Author.Tests.ltb-true k (low + many) h)
+      | inr h ↦ past k (borrow.Author.Tests.ltb-false k (low + many) h)
+    ]

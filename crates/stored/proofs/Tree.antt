@@ -4,19 +4,23 @@ use mathlib.Core.Bool.{Bool, true, false, not, ◌||◌, false≢true}
 use mathlib.Core.List.{List, [], ◌∷◌}
 use mathlib.Core.Path.{◌≡◌, refl, sym, ◌∙◌, ap, ap₂, subst, fun_ext}
 use native.Mathlib.Omega.{arith}
-use borrow.Author.Tests.{ltb-true, eqb-true, eq-eqb}
+use borrow.Author.Tests.{ltb-true, eqb-true}
 use lib.Dec.{eqb, ltb}
 use lib.ListN.{length, get_or-eq_default}
 use Rattle.semantics.specs.Proposition.{Proposition, never, both_of, either_of, negated}
 use Rattle.semantics.specs.Formula.{Formula, below, slen, chop, conjunction, disjunction, star, negation, for_some, point, stretch, whole, unit, scount, sdur}
 use Rattle.stored.specs.declared.Node.{Node}
+use Rattle.std.proofs.Common.{Option}
+use Rattle.std.specs.Option.{is_some}
+use Rattle.stored.specs.declared.nodes.Sort.{Sort}
 use Rattle.stored.specs.declared.nodes.Use.{Use}
 use Rattle.stored.specs.declared.nodes.Use.TheVariants.{PropositionNode, FormulaNode}
 use Rattle.stored.specs.Bytes.{every_below}
-use Rattle.stored.specs.Node.{requirement_sorts, emitted_sorts, sort_of, sort_below, a_use, b_use, operand_right, operands_right}
+use Rattle.stored.specs.Node.{proposition, formula, no_op, same_sort, requirement_sorts, emitted_sorts, sort_of, sort_below, a_use, b_use, operand_right, operands_right}
 use Rattle.stored.specs.Tree.{earlier, PropositionOp, never_op, always_op, signal_op, name_op, negated_op, both_op, either_op, no_proposition, FormulaOp, point_op, stretch_op, whole_op, unit_op, chop_op, conjunction_op, disjunction_op, star_op, slen_op, scount_op, sdur_op, drawn_op, at_op, gap_op, negation_op, for_some_op, no_formula, proposition_op, formula_ops, formula_op, proposition_of, proposition_step, proposition_at, formula_of, formula_step, formula_at}
 use Rattle.semantics.proofs.Tests.{and_left, and_right}
 use Rattle.stored.proofs.Rules.{asked, every_number}
+use Rattle.stored.proofs.Sorts.{same_sort-true, sort_same}
 use Rattle.stored.proofs.Made.{earlier_at, earlier_same, made_step, made_agree}
 
 -- an op's number
@@ -113,82 +117,82 @@ formula_cases P p16 p17 p18 p19 p20 p21 p22 p23 p24 p25 p26 p27 p28 p29 p30 p31 
     go no_formula e = other e
 
 -- a node of either kind that is sorted as a proposition or a formula has the op of one
-sorted_proposition : ℕ → PropositionOp → Bool
-sorted_proposition sort o = not (eqb sort 1) || not (eqb (proposition_number o) 0)
+sorted_proposition : Option Sort → PropositionOp → Bool
+sorted_proposition sort o = not (same_sort sort proposition) || not (eqb (proposition_number o) 0)
 
-sorted_formula : ℕ → FormulaOp → Bool
-sorted_formula sort o = not (eqb sort 2) || not (eqb (formula_number o) 0)
+sorted_formula : Option Sort → FormulaOp → Bool
+sorted_formula sort o = not (same_sort sort formula) || not (eqb (formula_number o) 0)
 
-module _ (sorts : List ℕ) (long : length sorts ≤ 32) where
+module _ (sorts : List (Option Sort)) (long : length sorts ≤ 32) where
   proposition_sorted : every_below 32 (λ j. sorted_proposition (sort_of sorts j) (proposition_op j)) ≡ true
-      → (k : ℕ) → sort_of sorts k ≡ 1 → proposition_op k ≡ no_proposition → ⊥
-  unfolding sort_of sorted_proposition proposition_number
+      → (k : ℕ) → sort_of sorts k ≡ proposition → proposition_op k ≡ no_proposition → ⊥
+  unfolding sort_of same_sort sorted_proposition proposition_number
   proposition_sorted all k e none =
       false≢true
-      (asked (eqb (sort_of sorts k) 1) false
+      (asked (same_sort (sort_of sorts k) proposition) false
       (subst (λ (o : PropositionOp). sorted_proposition (sort_of sorts k) o ≡ true) none
       (every_number 32 (λ j. sorted_proposition (sort_of sorts j) (proposition_op j)) all
-      (λ j h. ap (λ (z : ℕ). sorted_proposition z (proposition_op j)) (get_or-eq_default sorts 0 (omega arith))) k))
-      (eq-eqb (sort_of sorts k) 1 e))
+      (λ j h. ap (λ (z : Option Sort). sorted_proposition z (proposition_op j)) (get_or-eq_default sorts no_op (omega arith))) k))
+      (sort_same (sort_of sorts k) proposition e))
 
   formula_sorted : every_below 32 (λ j. sorted_formula (sort_of sorts j) (formula_op j)) ≡ true
-      → (k : ℕ) → sort_of sorts k ≡ 2 → formula_op k ≡ no_formula → ⊥
-  unfolding sort_of sorted_formula formula_number
+      → (k : ℕ) → sort_of sorts k ≡ formula → formula_op k ≡ no_formula → ⊥
+  unfolding sort_of same_sort sorted_formula formula_number
   formula_sorted all k e none =
       false≢true
-      (asked (eqb (sort_of sorts k) 2) false
+      (asked (same_sort (sort_of sorts k) formula) false
       (subst (λ (o : FormulaOp). sorted_formula (sort_of sorts k) o ≡ true) none
       (every_number 32 (λ j. sorted_formula (sort_of sorts j) (formula_op j)) all
-      (λ j h. ap (λ (z : ℕ). sorted_formula z (formula_op j)) (get_or-eq_default sorts 0 (omega arith))) k))
-      (eq-eqb (sort_of sorts k) 2 e))
+      (λ j h. ap (λ (z : Option Sort). sorted_formula z (formula_op j)) (get_or-eq_default sorts no_op (omega arith))) k))
+      (sort_same (sort_of sorts k) formula e))
 
-pub is_proposition : (k : ℕ) → sort_of requirement_sorts k ≡ 1 → proposition_op k ≡ no_proposition → ⊥
-unfolding proposition_op sort_of sorted_proposition proposition_number every_below
+pub is_proposition : (k : ℕ) → sort_of requirement_sorts k ≡ proposition → proposition_op k ≡ no_proposition → ⊥
+unfolding proposition_op sort_of same_sort sorted_proposition proposition_number every_below
 is_proposition = proposition_sorted requirement_sorts (omega arith) refl
 
-pub is_formula : (k : ℕ) → sort_of requirement_sorts k ≡ 2 → formula_op k ≡ no_formula → ⊥
-unfolding formula_op sort_of sorted_formula formula_number every_below
+pub is_formula : (k : ℕ) → sort_of requirement_sorts k ≡ formula → formula_op k ≡ no_formula → ⊥
+unfolding formula_op sort_of same_sort sorted_formula formula_number every_below
 is_formula = formula_sorted requirement_sorts (omega arith) refl
 
-pub emitted_proposition : (k : ℕ) → sort_of emitted_sorts k ≡ 1 → proposition_op k ≡ no_proposition → ⊥
-unfolding proposition_op sort_of sorted_proposition proposition_number every_below
+pub emitted_proposition : (k : ℕ) → sort_of emitted_sorts k ≡ proposition → proposition_op k ≡ no_proposition → ⊥
+unfolding proposition_op sort_of same_sort sorted_proposition proposition_number every_below
 emitted_proposition = proposition_sorted emitted_sorts (omega arith) refl
 
-pub emitted_formula_lem : (k : ℕ) → sort_of emitted_sorts k ≡ 2 → formula_op k ≡ no_formula → ⊥
-unfolding formula_op sort_of sorted_formula formula_number every_below
+pub emitted_formula_lem : (k : ℕ) → sort_of emitted_sorts k ≡ formula → formula_op k ≡ no_formula → ⊥
+unfolding formula_op sort_of same_sort sorted_formula formula_number every_below
 emitted_formula_lem = formula_sorted emitted_sorts (omega arith) refl
 
 -- where a node of the needed sort stands
-pub record Earlier (sorts : List ℕ) (x : ℕ → Node) (i v sort : ℕ) : Type 0 where
+pub record Earlier (sorts : List (Option Sort)) (x : ℕ → Node) (i v : ℕ) (sort : Option Sort) : Type 0 where
   pub less : v < i
   pub sorted : sort_of sorts (x v).op ≡ sort
 
-pub sort_below_lem : (sorts : List ℕ) (x : ℕ → Node) (i v k : ℕ) → 0 < k → sort_below sorts x i v ≡ k → Earlier sorts x i v k
+pub sort_below_lem : (sorts : List (Option Sort)) (x : ℕ → Node) (i v : ℕ) (sort : Option Sort) → is_some sort ≡ true → sort_below sorts x i v ≡ sort → Earlier sorts x i v sort
 unfolding sort_below
-sort_below_lem sorts x i v k p h = go (ltb v i) refl h
+sort_below_lem sorts x i v sort some h = go (ltb v i) refl h
   where
-    go : (b : Bool) → ltb v i ≡ b → mathlib.Core.Bool.cond b (sort_of sorts (x v).op) 0 ≡ k → Earlier sorts x i v k
+    go : (b : Bool) → ltb v i ≡ b → mathlib.Core.Bool.cond b (sort_of sorts (x v).op) no_op ≡ sort → Earlier sorts x i v sort
     go true e h = record { less = ltb-true v i e; sorted = h }
-    go false e h = absurd (omega arith)
+    go false e h = absurd (false≢true (ap is_some h ∙ some))
 
-pub operand_proposition : (sorts : List ℕ) (x : ℕ → Node) (i : ℕ) (what : Use) (v : ℕ) → operand_right sorts x i what v ≡ true → what ≡ PropositionNode → Earlier sorts x i v 1
+pub operand_proposition : (sorts : List (Option Sort)) (x : ℕ → Node) (i : ℕ) (what : Use) (v : ℕ) → operand_right sorts x i what v ≡ true → what ≡ PropositionNode → Earlier sorts x i v proposition
 unfolding operand_right
 operand_proposition sorts x i what v h e =
-    sort_below_lem sorts x i v 1 (omega arith) (eqb-true (sort_below sorts x i v) 1 (subst (λ (w : Use). operand_right sorts x i w v ≡ true) e h))
+    sort_below_lem sorts x i v proposition refl (same_sort-true (sort_below sorts x i v) proposition (subst (λ (w : Use). operand_right sorts x i w v ≡ true) e h))
 
-pub operand_formula : (sorts : List ℕ) (x : ℕ → Node) (i : ℕ) (what : Use) (v : ℕ) → operand_right sorts x i what v ≡ true → what ≡ FormulaNode → Earlier sorts x i v 2
+pub operand_formula : (sorts : List (Option Sort)) (x : ℕ → Node) (i : ℕ) (what : Use) (v : ℕ) → operand_right sorts x i what v ≡ true → what ≡ FormulaNode → Earlier sorts x i v formula
 unfolding operand_right
 operand_formula sorts x i what v h e =
-    sort_below_lem sorts x i v 2 (omega arith) (eqb-true (sort_below sorts x i v) 2 (subst (λ (w : Use). operand_right sorts x i w v ≡ true) e h))
+    sort_below_lem sorts x i v formula refl (same_sort-true (sort_below sorts x i v) formula (subst (λ (w : Use). operand_right sorts x i w v ≡ true) e h))
 
 -- the operands of a node that rule 7 takes
-pub record Operands (sorts : List ℕ) (x : ℕ → Node) (i : ℕ) : Type 0 where
-  pub a_proposition : a_use (x i).op ≡ PropositionNode → Earlier sorts x i (x i).a 1
-  pub a_formula : a_use (x i).op ≡ FormulaNode → Earlier sorts x i (x i).a 2
-  pub b_proposition : b_use (x i).op ≡ PropositionNode → Earlier sorts x i (x i).b 1
-  pub b_formula : b_use (x i).op ≡ FormulaNode → Earlier sorts x i (x i).b 2
+pub record Operands (sorts : List (Option Sort)) (x : ℕ → Node) (i : ℕ) : Type 0 where
+  pub a_proposition : a_use (x i).op ≡ PropositionNode → Earlier sorts x i (x i).a proposition
+  pub a_formula : a_use (x i).op ≡ FormulaNode → Earlier sorts x i (x i).a formula
+  pub b_proposition : b_use (x i).op ≡ PropositionNode → Earlier sorts x i (x i).b proposition
+  pub b_formula : b_use (x i).op ≡ FormulaNode → Earlier sorts x i (x i).b formula
 
-pub operands : (sorts : List ℕ) (x : ℕ → Node) (i : ℕ) → operands_right sorts x i ≡ true → Operands sorts x i
+pub operands : (sorts : List (Option Sort)) (x : ℕ → Node) (i : ℕ) → operands_right sorts x i ≡ true → Operands sorts x i
 unfolding operands_right
 operands sorts x i h =
     let n = x i in
@@ -253,7 +257,7 @@ same_formula n p p' f f' k =
     (λ other e g h. ap (λ (o : FormulaOp). formula_of o n p f) other ∙ sym (ap (λ (o : FormulaOp). formula_of o n p' f') other))
 
 -- the tree at a node is the constructor of its op over its operands' trees
-module _ (sorts : List ℕ) (x : ℕ → Node) (i : ℕ) (h : operands_right sorts x i ≡ true) where
+module _ (sorts : List (Option Sort)) (x : ℕ → Node) (i : ℕ) (h : operands_right sorts x i ≡ true) where
   earlier_proposition : (v : ℕ) → v < i → earlier i never (proposition_at x) v ≡ proposition_at x v
   earlier_proposition v l = earlier_at i never (proposition_at x) v l
 

@@ -13,14 +13,17 @@ use Rattle.semantics.specs.Placement.{Names, no_names}
 use Rattle.semantics.specs.Reach.{proposition_within, with, within}
 use Rattle.semantics.proofs.Tests.{and_left, and_right, or_elim}
 use Rattle.stored.specs.declared.Node.{Node}
+use Rattle.std.proofs.Common.{Option}
+use Rattle.stored.specs.declared.nodes.Sort.{Sort}
 use Rattle.stored.specs.declared.nodes.Use.{Use}
 use Rattle.stored.specs.declared.nodes.Use.TheVariants.{Nothing, Signal, Name, Comparison, Symbol, TwoNames, Number, PropositionNode, FormulaNode}
-use Rattle.stored.specs.Node.{emitted_sorts, sort_of, is_formula_node, is_operand, a_use, b_use, operands_right}
+use Rattle.stored.specs.Node.{proposition, formula, emitted_sorts, sort_of, is_formula_node, is_operand, a_use, b_use, operands_right}
 use Rattle.stored.specs.Tree.{pick, proposition_op, formula_op, proposition_of, proposition_at, formula_of, formula_at}
 use Rattle.stored.specs.Reached.{is_node, has_operand, Reached, itself, operand, under, Way, start, down, SomeWay}
 use Rattle.stored.specs.Sheet.{header_of, nodes_of}
 use Rattle.stored.specs.Emitted.{root_of, emitted_formula, emitted_operands, is_emitted}
 use Rattle.stored.proofs.Rules.{every_at}
+use Rattle.stored.proofs.Sorts.{same_sort-true}
 use Rattle.stored.proofs.Tree.{Operands, operands, sort_below_lem, proposition_cases, formula_cases, proposition_law, formula_law, emitted_proposition, emitted_formula_lem}
 use Rattle.stored.proofs.Emitted.{emitted_opened}
 
@@ -54,7 +57,7 @@ operand_of n i e =
     ]
 
 -- it is an earlier node
-pub operand_less : (sorts : List ℕ) (x : ℕ → Node) (j i : ℕ) → operands_right sorts x j ≡ true → has_operand (x j) i ≡ true → i < j
+pub operand_less : (sorts : List (Option Sort)) (x : ℕ → Node) (j i : ℕ) → operands_right sorts x j ≡ true → has_operand (x j) i ≡ true → i < j
 operand_less sorts x j i right e = go (operand_of (x j) i e)
   where
     go : OperandOf (x j) i → i < j
@@ -77,10 +80,10 @@ Lower : Node → (ℕ → Proposition) → (ℕ → Formula) → Names → ℕ �
 Lower n p f K k = (Held (under_op k n.b K) p f (a_use k) n.a) × (Held (under_op k n.b K) p f (b_use k) n.b)
 
 LowerProposition : Node → (ℕ → Proposition) → (ℕ → Formula) → Names → ℕ → Type 0
-LowerProposition n p f K k = sort_of emitted_sorts k ≡ 1 → proposition_within K (proposition_of (proposition_op k) n p) ≡ true → Lower n p f K k
+LowerProposition n p f K k = sort_of emitted_sorts k ≡ proposition → proposition_within K (proposition_of (proposition_op k) n p) ≡ true → Lower n p f K k
 
 LowerFormula : Node → (ℕ → Proposition) → (ℕ → Formula) → Names → ℕ → Type 0
-LowerFormula n p f K k = sort_of emitted_sorts k ≡ 2 → within K (formula_of (formula_op k) n p f) ≡ true → Lower n p f K k
+LowerFormula n p f K k = sort_of emitted_sorts k ≡ formula → within K (formula_of (formula_op k) n p f) ≡ true → Lower n p f K k
 
 lower_proposition : (n : Node) (p : ℕ → Proposition) (f : ℕ → Formula) (K : Names) (k : ℕ) → LowerProposition n p f K k
 unfolding LowerProposition Lower Held under_op pick a_use b_use proposition_of proposition_op proposition_within
@@ -121,8 +124,8 @@ lower_formula n p f K k =
 
 -- node i has names of K only
 data Closed (x : ℕ → Node) (K : Names) (i : ℕ) : Type 0 where
-  closed_proposition : sort_of emitted_sorts (x i).op ≡ 1 → proposition_within K (proposition_at x i) ≡ true → Closed x K i
-  closed_formula : sort_of emitted_sorts (x i).op ≡ 2 → within K (formula_at x i) ≡ true → Closed x K i
+  closed_proposition : sort_of emitted_sorts (x i).op ≡ proposition → proposition_within K (proposition_at x i) ≡ true → Closed x K i
+  closed_formula : sort_of emitted_sorts (x i).op ≡ formula → within K (formula_at x i) ≡ true → Closed x K i
 
 -- ---- a way from a closed formula
 module _ (x : ℕ → Node) (n : ℕ) (right : (i : ℕ) → i < n → operands_right emitted_sorts x i ≡ true) where
@@ -148,7 +151,7 @@ module _ (x : ℕ → Node) (n : ℕ) (right : (i : ℕ) → i < n → operands_
       go o h (in_b (as_proposition u) is) = subst (Closed x (under (x j) K)) is (closed_proposition (o.b_proposition u).sorted (subst (holds (x j).b) u h.1))
       go o h (in_b (as_formula u) is) = subst (Closed x (under (x j) K)) is (closed_formula (o.b_formula u).sorted (subst (holds (x j).b) u h.1))
 
-  module _ (r : ℕ) (below : r < n) (sorted : sort_of emitted_sorts (x r).op ≡ 2) (closed : within no_names (formula_at x r) ≡ true) where
+  module _ (r : ℕ) (below : r < n) (sorted : sort_of emitted_sorts (x r).op ≡ formula) (closed : within no_names (formula_at x r) ≡ true) where
     way_closed : (K : Names) (i : ℕ) → Way x r K i → (i < n) × (Closed x K i)
     way_closed K i start = (below, closed_formula sorted closed)
     way_closed K i (down {K = L} {j = j} w e) =
@@ -165,14 +168,14 @@ module _ (x : ℕ → Node) (n : ℕ) (right : (i : ℕ) → i < n → operands_
             ap (proposition_within K)
             (sym (ap (λ (k : ℕ). proposition_of (proposition_op k) (x i) (proposition_at x)) e) ∙ sym (proposition_law emitted_sorts x i (right i l)))
             ∙ h
-        go l (closed_formula s h) = absurd (omega (arith, sym s ∙ ap (sort_of emitted_sorts) e))
+        go l (closed_formula s h) = let other : formula ≡ proposition = sym s ∙ ap (sort_of emitted_sorts) e in cc
 
 -- of an emitted formula
 pub name_quantified : (y : List ℕ) → is_emitted y ≡ true → (K : Names) (i : ℕ) → Way (nodes_of y) (root_of y) K i → (nodes_of y i).op ≡ 4 → K (nodes_of y i).a ≡ true
 unfolding emitted_operands emitted_formula is_formula_node
 name_quantified y e =
     let o = emitted_opened y e in
-    let root = sort_below_lem emitted_sorts (nodes_of y) (header_of y).nodes (root_of y) 2 (omega arith) (eqb-true _ 2 o.root_formula) in
+    let root = sort_below_lem emitted_sorts (nodes_of y) (header_of y).nodes (root_of y) formula refl (same_sort-true _ formula o.root_formula) in
     name_under (nodes_of y) (header_of y).nodes (λ i l. every_at _ _ o.operands_right_holds i l) (root_of y) root.less root.sorted o.root_closed
 
 -- where a node is reached there is a way to it

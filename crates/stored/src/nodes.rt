@@ -4,13 +4,14 @@ ghost use Rattle.stored.specs.Bytes.{every_below};
 ghost use Rattle.stored.specs.Layout.{node_size};
 ghost use Rattle.stored.specs.Node.{node_at, requirement_sorts, sort_of, q_use, a_use, b_use, is_operand, field_right, fields_right, node_right, sort_below, operand_right, operands_right, is_formula_node};
 
-use crate::bytes::listed;
 use crate::{Node, bytes, layout, ops};
 
-// The sort of each op in kind 1: 0 none, 1 proposition, 2 formula.
-static SORTS: [u8; 32] = [
-    0, 1, 1, 1, 1, 1, 1, 1, 0, 0, 0, 0, 0, 0, 0, 0, 2, 2, 2, 2, 2, 2, 2, 2, 2, 2, 2, 2, 2, 2, 0, 0,
-];
+// What a node is.
+#[derive(Clone, Copy, PartialEq, Eq)]
+pub enum Sort {
+    Proposition,
+    Formula,
+}
 
 // What an op uses a field of its nodes for: a value, a name or two, a number, or the number of an earlier node.
 #[derive(Clone, Copy, PartialEq, Eq)]
@@ -39,10 +40,16 @@ impl Use {
     }
 }
 
-pub fn sort_of(op: usize) -> usize
+// The sort of an op of kind 1.
+#[tactic(auto, unfolding(crate::specs::Node::sort_of))]
+pub fn sort_of(op: usize) -> Option<Sort>
     ensures { result ≡ sort_of requirement_sorts op }
 {
-    listed(&SORTS, op)
+    match op {
+        ops::FALSE..=ops::OR_P => Some(Sort::Proposition),
+        ops::POINT..=ops::GAP => Some(Sort::Formula),
+        _ => None,
+    }
 }
 
 #[tactic(auto, unfolding(crate::specs::Node::q_use))]
@@ -115,13 +122,14 @@ fn field_ok(s: usize, m: usize, what: Use, v: usize) -> bool
     }
 }
 
+#[tactic(auto, unfolding(crate::specs::Node::fields_right))]
 fn fields_ok(s: usize, m: usize, x: Node) -> bool
     ensures { result ≡ fields_right requirement_sorts s m x }
 {
     let op = x.op;
     let a = x.a;
     let b = x.b;
-    let known = sort_of(op) != 0;
+    let known = sort_of(op).is_some();
     let q_ok = field_ok(s, m, q_use(op), x.q);
     let a_ok = field_ok(s, m, a_use(op), a);
     let b_ok = field_ok(s, m, b_use(op), b);
@@ -137,27 +145,28 @@ pub fn nodes_ok(nodes: &[u8], n: usize, s: usize, m: usize) -> bool
     (0..n).all(|i| fields_ok(s, m, node_at(nodes, i)))
 }
 
-// The sort of node v if it stands before node i, else 0.
-fn sort_below(nodes: &[u8], i: usize, v: usize) -> usize
+// The sort of node v if it stands before node i.
+#[tactic(auto, unfolding(crate::specs::Node::sort_below, crate::specs::Node::node_at))]
+fn sort_below(nodes: &[u8], i: usize, v: usize) -> Option<Sort>
     requires { node_size * i ≤ length nodes.now }
     ensures { result ≡ sort_below requirement_sorts (node_at nodes.now) i v }
 {
     if v < i {
         sort_of(bytes::byte(nodes, layout::NODE_SIZE * v))
     } else {
-        0
+        None
     }
 }
 
 // Field v of node i, used so, is an earlier node of the sort needed if it has to be one.
-#[tactic(auto, unfolding(crate::specs::Node::operand_right))]
+#[tactic(auto, unfolding(crate::specs::Node::operand_right, crate::specs::Node::same_sort))]
 fn operand_ok(nodes: &[u8], i: usize, what: Use, v: usize) -> bool
     requires { node_size * i ≤ length nodes.now }
     ensures { result ≡ operand_right requirement_sorts (node_at nodes.now) i what v }
 {
     match what {
-        Use::PropositionNode => sort_below(nodes, i, v) == 1,
-        Use::FormulaNode => sort_below(nodes, i, v) == 2,
+        Use::PropositionNode => matches!(sort_below(nodes, i, v), Some(Sort::Proposition)),
+        Use::FormulaNode => matches!(sort_below(nodes, i, v), Some(Sort::Formula)),
         _ => true,
     }
 }
@@ -181,9 +190,10 @@ pub fn operands_ok(nodes: &[u8], n: usize) -> bool
     (0..n).all(|i| operands_ok_at(nodes, i))
 }
 
+#[tactic(auto, unfolding(crate::specs::Node::is_formula_node, crate::specs::Node::same_sort))]
 pub fn is_formula_node(nodes: &[u8], n: usize, i: usize) -> bool
     requires { node_size * n ≤ length nodes.now }
     ensures { result ≡ is_formula_node requirement_sorts (node_at nodes.now) n i }
 {
-    sort_below(nodes, n, i) == 2
+    matches!(sort_below(nodes, n, i), Some(Sort::Formula))
 }

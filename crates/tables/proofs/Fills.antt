@@ -19,7 +19,7 @@ use Rattle.rows.proofs.Formulas.{star_holds}
 use Rattle.rows.proofs.Masks.{cut_bit}
 use Rattle.stored.specs.declared.Node.{Node}
 use Rattle.traces.specs.Columns.{IsColumns, trace_of, marks_of}
-use Rattle.stored.specs.Node.{requirement_sorts, sort_of, node_at}
+use Rattle.stored.specs.Node.{proposition, formula, requirement_sorts, sort_of, node_at}
 use Rattle.stored.specs.Reach.{reach_at, reach_table}
 use Rattle.stored.proofs.Rules.{length_in_order}
 use Rattle.stored.specs.Tree.{earlier, proposition_op, formula_op, formula_of, proposition_at, formula_at}
@@ -104,8 +104,8 @@ module _ {x : ℕ → Node} {σ : Trace} {μ : Marks} {n : ℕ} (few : n ≤ 64)
 
   -- the words of node i written, in the part that is its own
   pub filled_part : (i : ℕ) (words before own rest : List ℕ) → 64 * i + 64 ≤ length words → length own ≡ 64 → before ≡ take (64 * i) words → rest ≡ drop (64 * i) words
-      → (sort_of requirement_sorts (x i).op ≡ 2 → (b : ℕ) → b < n → get_or own b 0 ≡ row n (holds (formula_at x i) σ μ) b)
-      → (sort_of requirement_sorts (x i).op ≡ 1 → get_or own 0 0 ≡ word n (λ t. holds_at (proposition_at x i) σ μ t))
+      → (sort_of requirement_sorts (x i).op ≡ formula → (b : ℕ) → b < n → get_or own b 0 ≡ row n (holds (formula_at x i) σ μ) b)
+      → (sort_of requirement_sorts (x i).op ≡ proposition → get_or own 0 0 ≡ word n (λ t. holds_at (proposition_at x i) σ μ t))
       → Filled x σ μ n i words (before ++ (own ++ drop 64 rest))
   filled_part i words before own rest inside long front back rows column =
       subst (λ (new : List ℕ). Filled x σ μ n i words new) (sym (ap₂ (λ (a b : List ℕ). a ++ (own ++ drop 64 b)) front back))
@@ -125,7 +125,7 @@ module _ {nodes : List ℕ} {count n : ℕ} {columns words : List ℕ} (g : Give
   abbrev μ : Marks
   μ = marks_of columns
 
-  pub column_law : (old : List ℕ) → Before (node_at nodes) σ μ n old i → sort_of requirement_sorts (node_at nodes i).op ≡ 1
+  pub column_law : (old : List ℕ) → Before (node_at nodes) σ μ n old i → sort_of requirement_sorts (node_at nodes i).op ≡ proposition
       → column_of (proposition_op (node_at nodes i).op) (node_at nodes i) n columns old ≡ word n (λ t. holds_at (proposition_at (node_at nodes) i) σ μ t)
   unfolding Columns Column
   column_law old before s =
@@ -136,7 +136,7 @@ module _ {nodes : List ℕ} {count n : ℕ} {columns words : List ℕ} (g : Give
       (λ e. (before.earlier (node_at nodes i).b (o.b_proposition e).less).column (o.b_proposition e).sorted)
       ∙ ap (λ (q : Proposition). word n (λ t. holds_at q σ μ t)) (sym (proposition_law requirement_sorts (node_at nodes) i (operands_at g i h)))
 
-  pub row_law : (before : List ℕ) (first second b : ℕ) → b < n → Before (node_at nodes) σ μ n before i → sort_of requirement_sorts (node_at nodes i).op ≡ 2
+  pub row_law : (before : List ℕ) (first second b : ℕ) → b < n → Before (node_at nodes) σ μ n before i → sort_of requirement_sorts (node_at nodes i).op ≡ formula
       → first ≡ first_column (node_at nodes i).op (node_at nodes i) columns before
       → second ≡ second_column (node_at nodes i).op (node_at nodes i) columns → ((node_at nodes i).op ≡ 23 → ⊥)
       → row_of (formula_op (node_at nodes i).op) (node_at nodes i) n first second before i b ≡ row n (holds (formula_at (node_at nodes) i) σ μ) b
@@ -175,7 +175,7 @@ module _ {nodes : List ℕ} {count n : ℕ} {columns words : List ℕ} (g : Give
           ∙ ap (λ (f : Formula). row n (holds f σ μ) b) (sym law)
 
   -- the rows of a formula node, which was read as y
-  pub rows_right : (y : Node) (before own : List ℕ) → y ≡ node_at nodes i → sort_of requirement_sorts (node_at nodes i).op ≡ 2
+  pub rows_right : (y : Node) (before own : List ℕ) → y ≡ node_at nodes i → sort_of requirement_sorts (node_at nodes i).op ≡ formula
       → Before (node_at nodes) σ μ n before i → step.Rows y i n columns before own
       → (b : ℕ) → b < n → get_or own b 0 ≡ row n (holds (formula_at (node_at nodes) i) σ μ) b
   rows_right y before own e s was made b inside =

@@ -3,7 +3,6 @@ use Prim.Native.Nat.{ℕ, ◌-◌, ◌/◌, ◌%◌, ◌^◌, ◌≤◌, ◌<◌
 use mathlib.Core.Bool.{Bool, true, false}
 use mathlib.Core.List.{List}
 use mathlib.Core.Path.{◌≡◌, refl, sym, ◌∙◌, ap, ap₂}
-use native.Mathlib.Omega.{arith}
 use lib.Bits.{bit_and, bit_or}
 use lib.Dec.{ltb}
 use lib.Pow.{pow_pos}
@@ -16,7 +15,7 @@ use Rattle.rows.proofs.Rows.{word_small, word_bit, is_word_lem, is_word_in, word
 use Rattle.rows.proofs.Formulas.{point_holds, stretch_holds, whole_holds, unit_holds, chop_holds, conjunction_holds, disjunction_holds, slen_holds, scount_holds, sdur_holds, drawn_holds, at_holds, gap_holds}
 use Rattle.stored.specs.declared.Node.{Node}
 use Rattle.stored.specs.declared.nodes.Use.TheVariants.{Signal, PropositionNode, FormulaNode}
-use Rattle.stored.specs.Node.{requirement_sorts, sort_of, a_use, b_use, q_use}
+use Rattle.stored.specs.Node.{proposition, formula, requirement_sorts, sort_of, a_use, b_use, q_use}
 use Rattle.stored.specs.Tree.{proposition_op, formula_op, proposition_of, formula_of, comparison_of, symbol_of}
 use Rattle.stored.proofs.Tree.{proposition_cases, formula_cases, is_proposition, is_formula}
 use Rattle.tables.specs.Table.{row_at}
@@ -39,7 +38,7 @@ module _ (x : Node) (n : ℕ) (columns : List ℕ) (σ : Trace) (μ : Marks) (wo
 
   unfoldable pub Columns : ℕ → Type 0
   Columns k =
-      sort_of requirement_sorts k ≡ 1 → (a_use k ≡ Signal → x.a < 16) → (a_use k ≡ PropositionNode → Column words x.a) → (b_use k ≡ PropositionNode → Column words x.b)
+      sort_of requirement_sorts k ≡ proposition → (a_use k ≡ Signal → x.a < 16) → (a_use k ≡ PropositionNode → Column words x.a) → (b_use k ≡ PropositionNode → Column words x.b)
       → column_of (proposition_op k) x n columns words ≡ word n (λ t. holds_at (proposition_of (proposition_op k) x p) σ μ t)
 
   pub column_is : (k : ℕ) → Columns k
@@ -68,7 +67,7 @@ module _ (x : Node) (n : ℕ) (columns : List ℕ) (σ : Trace) (μ : Marks) (wo
     -- every op but a star, whose rows are from its own later ones
     unfoldable pub Lines : ℕ → Type 0
     Lines k =
-        sort_of requirement_sorts k ≡ 2 → (a_use k ≡ Signal → x.a < 16) → first ≡ first_column k x columns old → second ≡ second_column k x columns
+        sort_of requirement_sorts k ≡ formula → (a_use k ≡ Signal → x.a < 16) → first ≡ first_column k x columns old → second ≡ second_column k x columns
         → (a_use k ≡ PropositionNode → Column old x.a) → (a_use k ≡ FormulaNode → Rows x.a) → (b_use k ≡ FormulaNode → Rows x.b)
         → (k ≡ 23 → ⊥)
         → row_of (formula_op k) x n first second words own b ≡ row n (holds (formula_of (formula_op k) x p f) σ μ) b
@@ -104,7 +103,7 @@ module _ (x : Node) (n : ℕ) (columns : List ℕ) (σ : Trace) (μ : Marks) (wo
         (λ s h u v c r₁ r₂ other.
         gap_holds n few σ μ b inside (x.q / 16) (x.q % 16) first second x.a x.b
         (column_bit first (λ t. μ (x.q / 16) t) (u ∙ told.name (x.q / 16))) (column_bit second (λ t. μ (x.q % 16) t) (v ∙ told.name (x.q % 16))))
-        (λ s h u v c r₁ r₂ other. absurd (omega arith))
-        (λ s h u v c r₁ r₂ other. absurd (omega arith))
+        (λ s h u v c r₁ r₂ other. cc)
+        (λ s h u v c r₁ r₂ other. cc)
         k
         (λ none s h u v c r₁ r₂ other. absurd (is_formula k s none))

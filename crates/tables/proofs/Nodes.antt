@@ -1,17 +1,20 @@
 -- What rules 6 and 7 say of one node.
+use Rattle.std.proofs.Common.{Option}
+use Rattle.stored.specs.declared.nodes.Sort.{Sort}
+use Rattle.std.specs.Option.{is_some}
 use Prim.Native.Nat.{ℕ, ◌/◌, ◌%◌, ◌<◌, ◌+◌, ◌*◌}
-use mathlib.Core.Bool.{true, not}
+use mathlib.Core.Bool.{true≢false, true}
 use mathlib.Core.List.{List}
 use mathlib.Core.Path.{◌≡◌, sym, ap, subst, ◌∙◌}
 use native.Mathlib.Omega.{arith}
-use borrow.Author.Tests.{ltb-true, eqb-false, not-true}
-use lib.Dec.{ltb, eqb}
+use borrow.Author.Tests.{ltb-true}
+use lib.Dec.{ltb}
 use lib.ListN.{length, take}
 use lib.Seq.{length-take-le}
 use Rattle.stored.specs.declared.Node.{Node}
 use Rattle.stored.specs.declared.nodes.Use.{Use}
 use Rattle.stored.specs.declared.nodes.Use.TheVariants.{Signal, Name, Comparison, Symbol, TwoNames}
-use Rattle.stored.specs.Node.{requirement_sorts, sort_of, node_at, q_use, a_use, field_right, fields_right, node_right, operands_right}
+use Rattle.stored.specs.Node.{proposition, formula, no_op, requirement_sorts, sort_of, node_at, q_use, a_use, field_right, fields_right, node_right, operands_right}
 use Rattle.semantics.proofs.Tests.{and_left, and_right}
 use Rattle.stored.proofs.Rules.{every_at}
 use Rattle.stored.proofs.Tree.{operands}
@@ -45,17 +48,17 @@ field_kept s m what v h =
     told e = subst (λ (w : Use). field_right s m w v ≡ true) e h
 
 record NodeKept (s m : ℕ) (x : Node) : Type 0 where
-  pub sorted : sort_of requirement_sorts x.op ≡ 0 → ⊥
+  pub sorted : sort_of requirement_sorts x.op ≡ no_op → ⊥
   pub q_field : FieldKept s m (q_use x.op) x.q
   pub a_field : FieldKept s m (a_use x.op) x.a
 
 node_kept : (s m : ℕ) (x : Node) → fields_right requirement_sorts s m x ≡ true → NodeKept s m x
 unfolding fields_right
 node_kept s m x h =
-    let r₁ = and_right (not (eqb (sort_of requirement_sorts x.op) 0)) _ h in
+    let r₁ = and_right (is_some (sort_of requirement_sorts x.op)) _ h in
     let r₂ = and_right (field_right s m (q_use x.op) x.q) _ r₁ in
     record {
-      sorted = eqb-false _ 0 (not-true _ (and_left (not (eqb (sort_of requirement_sorts x.op) 0)) _ h));
+      sorted = λ e. true≢false (sym (and_left (is_some (sort_of requirement_sorts x.op)) _ h) ∙ ap is_some e);
       q_field = field_kept s m (q_use x.op) x.q (and_left (field_right s m (q_use x.op) x.q) _ r₁);
       a_field = field_kept s m (a_use x.op) x.a (and_left (field_right s m (a_use x.op) x.a) _ r₂);
     }
@@ -64,14 +67,14 @@ node_kept s m x h =
 pub record Chop (x : ℕ → Node) (i : ℕ) (r : Node) : Type 0 where
   pub op : r.op ≡ 20
   pub pair : is_pair r.op ≡ true
-  pub formula : sort_of requirement_sorts (x i).op ≡ 2
+  pub formula : sort_of requirement_sorts (x i).op ≡ formula
   pub first : r.a < i
   pub second : r.b < i
 
 -- a star after i nodes: its operand is among them
 pub record Star (x : ℕ → Node) (i : ℕ) (r : Node) : Type 0 where
   pub op : r.op ≡ 23
-  pub formula : sort_of requirement_sorts (x i).op ≡ 2
+  pub formula : sort_of requirement_sorts (x i).op ≡ formula
   pub first : r.a < i
 
 module _ {nodes : List ℕ} {count n : ℕ} {columns words : List ℕ} (g : Given nodes count n columns words) where
@@ -88,7 +91,7 @@ module _ {nodes : List ℕ} {count n : ℕ} {columns words : List ℕ} (g : Give
   operands_at i h = nodes_kept.operands_kept i h
 
   -- a node that is no proposition is a formula
-  pub node_sorted : (i : ℕ) → i < count → sort_of requirement_sorts (node_at nodes i).op ≡ 0 → ⊥
+  pub node_sorted : (i : ℕ) → i < count → sort_of requirement_sorts (node_at nodes i).op ≡ no_op → ⊥
   node_sorted i h = (node_kept g.signals g.names (node_at nodes i) (nodes_kept.fields i h)).sorted
 
   pub usable : (i : ℕ) → i < count → Usable (node_at nodes i) i
@@ -108,12 +111,14 @@ module _ {nodes : List ℕ} {count n : ℕ} {columns words : List ℕ} (g : Give
         second_name = λ e. let l = k.q_field.second e in omega (arith, g.few_names);
       }
 
-  -- the sort of a node that was read, told by a number
-  pub proposition_sort : (i s : ℕ) (r : Node) → r ≡ node_at nodes i → s ≡ sort_of requirement_sorts r.op → s ≡ 1 → sort_of requirement_sorts (node_at nodes i).op ≡ 1
+  -- the sort of a node that was read
+  pub proposition_sort : (i : ℕ) (s : Option Sort) (r : Node) → r ≡ node_at nodes i → s ≡ sort_of requirement_sorts r.op → s ≡ proposition
+      → sort_of requirement_sorts (node_at nodes i).op ≡ proposition
   proposition_sort i s r e t one = ap (λ (y : Node). sort_of requirement_sorts y.op) (sym e) ∙ sym t ∙ one
 
-  pub formula_sort : (i s : ℕ) (r : Node) → i < count → r ≡ node_at nodes i → s ≡ sort_of requirement_sorts r.op → (s ≡ 1 → ⊥)
-      → sort_of requirement_sorts (node_at nodes i).op ≡ 2
+  pub formula_sort : (i : ℕ) (s : Option Sort) (r : Node) → i < count → r ≡ node_at nodes i → s ≡ sort_of requirement_sorts r.op
+      → (s ≡ proposition → ⊥)
+      → sort_of requirement_sorts (node_at nodes i).op ≡ formula
   formula_sort i s r h e t other =
       formula_left _ (node_sorted i h) (λ one. other (t ∙ ap (λ (y : Node). sort_of requirement_sorts y.op) e ∙ one))
 
@@ -122,11 +127,11 @@ module _ {nodes : List ℕ} {count n : ℕ} {columns words : List ℕ} (g : Give
   own_long i rest h e = length-take-le 64 rest (omega (arith, g.words_long))
 
   -- a node that was read, with the ops of its sort
-  pub proposition_read : (i : ℕ) (r : Node) → i < count → r ≡ node_at nodes i → sort_of requirement_sorts (node_at nodes i).op ≡ 1 → Usable r i × Ops 1 8 r.op
+  pub proposition_read : (i : ℕ) (r : Node) → i < count → r ≡ node_at nodes i → sort_of requirement_sorts (node_at nodes i).op ≡ proposition → Usable r i × Ops 1 8 r.op
   proposition_read i r h e s =
       subst (λ (y : Node). Usable y i × Ops 1 8 y.op) (sym e) (usable i h, proposition_ops (node_at nodes i).op s)
 
-  pub formula_read : (i : ℕ) (r : Node) → i < count → r ≡ node_at nodes i → sort_of requirement_sorts (node_at nodes i).op ≡ 2 → Usable r i × Ops 16 30 r.op
+  pub formula_read : (i : ℕ) (r : Node) → i < count → r ≡ node_at nodes i → sort_of requirement_sorts (node_at nodes i).op ≡ formula → Usable r i × Ops 16 30 r.op
   formula_read i r h e s =
       subst (λ (y : Node). Usable y i × Ops 16 30 y.op) (sym e) (usable i h, formula_ops_lem (node_at nodes i).op s)
 

@@ -1,17 +1,21 @@
 -- What an op uses its fields for, over the ops of one family.
+use Rattle.stored.proofs.Sorts.{sort_same}
+use Rattle.stored.specs.declared.nodes.Sort.TheVariants.{Proposition, Formula}
+use Rattle.stored.specs.declared.nodes.Sort.{Sort}
+use Rattle.std.proofs.Common.{Option, Some, None}
 use Prim.Native.Nat.{ℕ, ◌≤◌, ◌<◌}
 use mathlib.Core.Bool.{Bool, true, false, not, ◌&&◌, ◌||◌}
 use mathlib.Core.List.{List}
 use mathlib.Core.Logic.{inl, inr}
 use mathlib.Core.Path.{◌≡◌, refl, sym, ap, subst, ◌∙◌}
 use native.Mathlib.Omega.{arith}
-use borrow.Author.Tests.{ltb-true, ltb-false, leb-true, eqb-true, eqb-false, eq-eqb, le-leb, lt-ltb}
+use borrow.Author.Tests.{ltb-true, ltb-false, leb-true, eqb-true, eqb-false, le-leb, lt-ltb}
 use lib.Dec.{leb, ltb, eqb}
 use lib.ListN.{get_or-eq_default}
 use Rattle.stored.specs.declared.Node.{Node}
 use Rattle.stored.specs.declared.nodes.Use.TheVariants.{Comparison, FormulaNode}
 use Rattle.stored.specs.Bytes.{every_below}
-use Rattle.stored.specs.Node.{requirement_sorts, sort_of, a_use, b_use, q_use}
+use Rattle.stored.specs.Node.{proposition, formula, no_op, same_sort, requirement_sorts, sort_of, a_use, b_use, q_use}
 use Rattle.semantics.proofs.Tests.{test, both, and_left, and_right, is_false}
 use Rattle.tables.specs.Step.{first_column, second_column, of_first, of_two, is_pair}
 use Rattle.stored.proofs.Rules.{asked, every_number, each_between}
@@ -31,37 +35,33 @@ pub record Ops (low high k : ℕ) : Type 0 where
   pub least : low ≤ k
   pub most : k < high
 
-ops : (sort low high : ℕ) → (k : ℕ) → (not (eqb (sort_of requirement_sorts k) sort) || (leb low k && ltb k high)) ≡ true → sort_of requirement_sorts k ≡ sort → Ops low high k
+ops : (sort : Option Sort) (low high : ℕ) → (k : ℕ) → (not (same_sort (sort_of requirement_sorts k) sort) || (leb low k && ltb k high)) ≡ true → sort_of requirement_sorts k ≡ sort → Ops low high k
 ops sort low high k t e =
-    let r = asked (eqb (sort_of requirement_sorts k) sort) (leb low k && ltb k high) t (eq-eqb (sort_of requirement_sorts k) sort e) in
+    let r = asked (same_sort (sort_of requirement_sorts k) sort) (leb low k && ltb k high) t (sort_same (sort_of requirement_sorts k) sort e) in
     record { least = leb-true low k (and_left (leb low k) (ltb k high) r); most = ltb-true k high (and_right (leb low k) (ltb k high) r) }
 
-pub proposition_ops : (k : ℕ) → sort_of requirement_sorts k ≡ 1 → Ops 1 8 k
-unfolding sort_of every_below
+pub proposition_ops : (k : ℕ) → sort_of requirement_sorts k ≡ proposition → Ops 1 8 k
+unfolding sort_of same_sort every_below
 proposition_ops k =
-    ops 1 1 8 k
-    (every_number 32 (λ k. not (eqb (sort_of requirement_sorts k) 1) || (leb 1 k && ltb k 8)) refl
-    (λ k h. ap (λ (z : ℕ). not (eqb z 1) || (leb 1 k && ltb k 8)) (get_or-eq_default requirement_sorts 0 h)) k)
+    ops proposition 1 8 k
+    (every_number 32 (λ k. not (same_sort (sort_of requirement_sorts k) proposition) || (leb 1 k && ltb k 8)) refl
+    (λ k h. ap (λ (z : Option Sort). not (same_sort z proposition) || (leb 1 k && ltb k 8)) (get_or-eq_default requirement_sorts no_op h)) k)
 
-pub formula_ops_lem : (k : ℕ) → sort_of requirement_sorts k ≡ 2 → Ops 16 30 k
-unfolding sort_of every_below
+pub formula_ops_lem : (k : ℕ) → sort_of requirement_sorts k ≡ formula → Ops 16 30 k
+unfolding sort_of same_sort every_below
 formula_ops_lem k =
-    ops 2 16 30 k
-    (every_number 32 (λ k. not (eqb (sort_of requirement_sorts k) 2) || (leb 16 k && ltb k 30)) refl
-    (λ k h. ap (λ (z : ℕ). not (eqb z 2) || (leb 16 k && ltb k 30)) (get_or-eq_default requirement_sorts 0 h)) k)
+    ops formula 16 30 k
+    (every_number 32 (λ k. not (same_sort (sort_of requirement_sorts k) formula) || (leb 16 k && ltb k 30)) refl
+    (λ k h. ap (λ (z : Option Sort). not (same_sort z formula) || (leb 16 k && ltb k 30)) (get_or-eq_default requirement_sorts no_op h)) k)
 
 -- a sort that is neither no sort nor a proposition
-pub formula_left : (k : ℕ) → (sort_of requirement_sorts k ≡ 0 → ⊥) → (sort_of requirement_sorts k ≡ 1 → ⊥) → sort_of requirement_sorts k ≡ 2
-unfolding sort_of every_below
-formula_left k known other =
-    let most : sort_of requirement_sorts k ≤ 2 =
-    leb-true (sort_of requirement_sorts k) 2
-    (every_number 32 (λ k. leb (sort_of requirement_sorts k) 2) refl
-    (λ k h. ap (λ (z : ℕ). leb z 2) (get_or-eq_default requirement_sorts 0 h)) k) in
-    left (sort_of requirement_sorts k) most known other
+pub formula_left : (k : ℕ) → (sort_of requirement_sorts k ≡ no_op → ⊥) → (sort_of requirement_sorts k ≡ proposition → ⊥) → sort_of requirement_sorts k ≡ formula
+formula_left k = left (sort_of requirement_sorts k)
   where
-    left : (s : ℕ) → s ≤ 2 → (s ≡ 0 → ⊥) → (s ≡ 1 → ⊥) → s ≡ 2
-    left s h a b = omega arith
+    left : (sort : Option Sort) → (sort ≡ no_op → ⊥) → (sort ≡ proposition → ⊥) → sort ≡ formula
+    left None a b = absurd (a refl)
+    left (Some Proposition) a b = absurd (b refl)
+    left (Some Formula) a b = refl
 
 -- chop, and, or: formulas over the rows of two formulas, and over no columns
 pub pair_ops : (k : ℕ) → is_pair k ≡ true → Ops 20 23 k
@@ -101,9 +101,9 @@ pair_told P p q r k e =
       ]
     ]
 
-pub pair_formula : (k : ℕ) → is_pair k ≡ true → sort_of requirement_sorts k ≡ 2
+pub pair_formula : (k : ℕ) → is_pair k ≡ true → sort_of requirement_sorts k ≡ formula
 unfolding sort_of
-pair_formula = pair_told (λ k. sort_of requirement_sorts k ≡ 2) refl refl refl
+pair_formula = pair_told (λ k. sort_of requirement_sorts k ≡ formula) refl refl refl
 
 pub pair_right : (k : ℕ) → is_pair k ≡ true → b_use k ≡ FormulaNode
 unfolding b_use
@@ -118,7 +118,7 @@ unfolding second_column of_two q_use
 pair_second k x columns = pair_told (λ k. 0 ≡ second_column k x columns) refl refl refl k
 
 -- star: over the rows of one formula and its own, and over no columns
-pub star_formula : (k : ℕ) → k ≡ 23 → sort_of requirement_sorts k ≡ 2
+pub star_formula : (k : ℕ) → k ≡ 23 → sort_of requirement_sorts k ≡ formula
 unfolding sort_of
 star_formula k e = rw e
 

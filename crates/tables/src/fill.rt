@@ -16,7 +16,7 @@ use rows::mask::{below, only};
 use stored::Node;
 use stored::layout::MOST_NODES;
 use stored::masks::name_mask;
-use stored::nodes::{node_at, sort_of};
+use stored::nodes::{Sort, node_at, sort_of};
 use stored::ops::{AND, CHOP, GAP, MARK, OR, STAR, SYMBOL};
 use traces::trace::FIRST_NAME;
 
@@ -140,7 +140,7 @@ fn put_node(nodes: &[u8], count: usize, n: usize, columns: &[u64], i: usize, wor
     let x = node_at(nodes, i);
     let (before, rest) = words.split_at_mut(64 * i);
     let own = &mut rest[..64];
-    if sort_of(x.op) == 1 {
+    if let Some(Sort::Proposition) = sort_of(x.op) {
         own[0] = column::proposition(x, i, n, columns, before);
     } else {
         put_rows(x, i, n, columns, before, own);

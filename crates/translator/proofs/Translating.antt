@@ -28,6 +28,7 @@ use Rattle.stored.specs.Emitted.{of_kind_two, emitted_counted, root_of, emitted_
 use Rattle.stored.specs.Reached.{Reached}
 use Rattle.stored.specs.Layout.{emitted_kind, nodes_end, clauses_end, following, least_output}
 use Rattle.stored.specs.Written.{node_in, put_header, header_bytes}
+use Rattle.stored.proofs.Sorts.{sort_same}
 use Rattle.stored.proofs.Rules.{every_all}
 use Rattle.stored.proofs.Tree.{formula_agree}
 use Rattle.stored.proofs.Written.{header_length, header_back, header_byte, header_read, header_rest, nodes_in, taken_byte, taken_header, taken_node}
@@ -170,7 +171,7 @@ module _ (y : List ℕ) (r : ℕ) (f : Formula) (good : Good y) (has : Has y r f
   unfolding is_formula_node sort_below
   is_root =
       rw (root_is, cut_header)
-      (rw (lt-ltb r (count y) (omega arith)) (eq-eqb _ _ (ap (λ (n : Node). sort_of emitted_sorts n.op) (cut_node r (omega arith)) ∙ has.sorted)))
+      (rw (lt-ltb r (count y) (omega arith)) (sort_same _ _ (ap (λ (n : Node). sort_of emitted_sorts n.op) (cut_node r (omega arith)) ∙ has.sorted)))
 
   pub is_emitted_lem : is_emitted (take (nodes_end (r + 1)) y) ≡ true
   unfolding versioned of_kind_two emitted_nodes emitted_operands node_right

@@ -6,8 +6,9 @@ use Prim.Native.Nat.{ℕ}
 use mathlib.Core.List.{List}
 use borrow.Author.Tests.{eqb-true}
 use lib.ListN.{get_or}
-use Rattle.stored.specs.Node.{node_at, requirement_sorts, is_formula_node}
+use Rattle.stored.specs.Node.{formula, node_at, requirement_sorts, is_formula_node}
 use Rattle.traces.specs.Columns.{trace_of}
+use Rattle.stored.proofs.Sorts.{same_sort-true}
 use Rattle.stored.proofs.Tree.{sort_below_lem}
 use Rattle.tables.specs.Table.{standing}
 use Rattle.checker.specs.Table.{placement_of, table_of, node_refusal}
@@ -42,9 +43,9 @@ rows_of-requires c =
     let a = c.args in
     let g = c.requires in
     let inside = names_inside a.m a.n (get_or a.given 0 0) (get_or a.given 1 0) (get_or a.given 2 0) g.some_cycles (sym c.names_placed.ensures ∙ c.if-not-names_placed.false) in
-    let formula = sym c.is_formula_node.ensures ∙ c.if-not-is_formula_node.false in
-    let found = sort_below_lem requirement_sorts (node_at a.nodes.now) a.count a.node 2 (omega arith) (eqb-true _ 2 formula) in
-    record { given = (g, rw c.heed_all.ensures inside); known_node = (found.less, found.sorted) }
+    let found = sym c.is_formula_node.ensures ∙ c.if-not-is_formula_node.false in
+    let node = sort_below_lem requirement_sorts (node_at a.nodes.now) a.count a.node formula refl (same_sort-true _ formula found) in
+    record { given = (g, rw c.heed_all.ensures inside); known_node = (node.less, node.sorted) }
 
 pub returns : goal.returns
 unfolding placement_of

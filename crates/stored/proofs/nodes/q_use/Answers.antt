@@ -1,15 +1,11 @@
 -- `stored::nodes::q_use` meets its contract.
 use mathlib.Core.Path.{◌≡◌, refl, sym}
-use mathlib.Core.Logic.{inl, inr}
 use Prim.Native.Nat.{ℕ}
 use native.Mathlib.Omega.{arith}
-use lib.Dec.{ltb}
-use borrow.Author.Tests.{ltb-true, ltb-false}
-use Rattle.semantics.proofs.Tests.{test}
 use lib.ListN.{get_or-eq_default}
 use Rattle.stored.specs.declared.nodes.Use.TheVariants.{Nothing, Comparison}
 use Rattle.stored.specs.Node.{q_uses, q_use}
-use Rattle.stored.proofs.Rules.{each_between}
+use Rattle.stored.proofs.Rules.{each_between, each_from}
 use Rattle.stored.proofs.nodes.q_use.Goals as goal
 
 pub returns-in-24 : goal.returns-in-24
@@ -22,9 +18,5 @@ Other k = (k ≡ 27 → ⊥) → (k ≡ 29 → ⊥) → Nothing ≡ q_use k
 pub returns-in_default-2 : goal.returns-in_default-2
 unfolding q_use Other
 returns-in_default-2 c =
-    elim (test (ltb c.args.op 32)) [
-      | inl e ↦ let below = ltb-true c.args.op 32 e in
-          each_between Other 27 5 (λ p q. absurd (p refl), (λ p q. refl, (λ p q. absurd (q refl), (λ p q. refl, (λ p q. refl, tt)))))
-          c.args.op (omega arith) (omega arith) (λ h. omega arith) (λ h. omega arith)
-      | inr e ↦ let past = ltb-false c.args.op 32 e in sym (get_or-eq_default q_uses Nothing past)
-    ]
+    each_from Other 27 5 (λ p q. absurd (p refl), (λ p q. refl, (λ p q. absurd (q refl), (λ p q. refl, (λ p q. refl, tt)))))
+    (λ k h p q. sym (get_or-eq_default q_uses Nothing h)) c.args.op (omega arith) (λ h. omega arith) (λ h. omega arith)
