@@ -9,7 +9,7 @@ ghost use Rattle.checker.specs.Table.{words_after};
 ghost use Rattle.checker.specs.Check.{told, told_whole, check_answer, check_refusal};
 ghost use Rattle.checker.specs.Clauses.{Sounds, clause_at, place_of};
 
-use crate::failing::{Failing, Sizes, failing_advice, first_failing};
+use crate::failing::{Sizes, failing_advice, first_failing};
 use stored::SheetAnswer;
 use stored::clauses::{ASSUMPTION, COMMITMENT};
 use stored::layout::LEAST_WORDS;
@@ -81,14 +81,14 @@ fn finding_over(
         ASSUMPTION, clauses, sizes, nodes, reach, columns, words, rows,
     );
     match assumption {
-        Failing::At(clause, _) => Finding::Excused(clause),
-        Failing::Nothing => {
+        Some(failing) => Finding::Excused(failing.clause),
+        None => {
             let commitment = first_failing(
                 COMMITMENT, clauses, sizes, nodes, reach, columns, words, rows,
             );
             match commitment {
-                Failing::At(clause, number) => Finding::Broken(place_of(clause, number)),
-                Failing::Nothing => Finding::Holds,
+                Some(failing) => Finding::Broken(place_of(failing.clause, failing.place)),
+                None => Finding::Holds,
             }
         }
     }

@@ -1,5 +1,5 @@
 // The clauses that fail: where one fails first, the first with a role, and the advice.
-ghost use Rattle.std.specs.Prelude.{◌≡◌, ◌≤◌, length};
+ghost use Rattle.std.specs.Prelude.{◌≡◌, ◌<◌, ◌≤◌, length};
 ghost use Rattle.semantics.specs.Clause.{breaks};
 ghost use Rattle.semantics.specs.Verdict.{advice_of};
 ghost use Rattle.stored.specs.Bytes.{in_order};
@@ -17,10 +17,10 @@ use stored::StoredClause;
 use stored::clauses::{ADVICE, stored_at};
 
 // A failing clause, with the number of its first broken place.
-#[derive(Drop)]
-pub enum Failing {
-    At(usize, usize),
-    Nothing,
+#[derive(Clone, Copy)]
+pub struct Failing {
+    pub clause: usize,
+    pub place: usize,
 }
 
 // How many nodes, clauses and cycles a check goes over.
@@ -31,7 +31,7 @@ pub struct Sizes {
     pub cycles: usize,
 }
 
-// The number of a clause's first broken place, or PLACES.
+// The number of a clause's first broken place; PLACES, at which the walk for it begins, where there is none.
 fn clause_place(
     d: StoredClause,
     sizes: Sizes,
@@ -62,27 +62,30 @@ fn clause_place(
     walk(spot, job, PLACES, nodes, reach, columns, words, rows)
 }
 
-// The same if the clause has the role; PLACES if it has another.
+// The number of clause k's first broken place, if it has the role and fails.
 fn role_place(
     role: usize,
-    d: StoredClause,
+    k: usize,
+    clauses: &[u8],
     sizes: Sizes,
     nodes: &[u8],
     reach: &[usize],
     columns: &mut [u64],
     words: &mut [u64],
     rows: &mut [u64],
-) -> usize
+) -> Option<usize>
     requires laid { Laid nodes.now sizes.nodes sizes.cycles reach.now (trace_of sizes.cycles columns.old) columns.old words.old }
-    requires known_role { (role ≤ last_role) × Sound nodes.now sizes.nodes d × (length rows.old ≡ 64) }
+    requires known_role { (role ≤ last_role) × (k < sizes.clauses) × Sounds nodes.now sizes.nodes clauses.now sizes.clauses × (length rows.old ≡ 64) }
     ensures still_laid { Laid nodes.now sizes.nodes sizes.cycles reach.now (trace_of sizes.cycles columns.old) columns.new words.new }
     ensures rows_long { length rows.new ≡ 64 }
-    ensures place_is { PlaceIs (role_of role) (clause_of (node_at nodes.now) d) (trace_of sizes.cycles columns.old) result }
+    ensures place_is { PlaceIs (role_of role) (clause_at nodes.now clauses.now k) (trace_of sizes.cycles columns.old) result }
 {
+    let d = stored_at(clauses, k);
     if d.role != role {
-        return PLACES;
+        return None;
     }
-    clause_place(d, sizes, nodes, reach, columns, words, rows)
+    let place = clause_place(d, sizes, nodes, reach, columns, words, rows);
+    if place < PLACES { Some(place) } else { None }
 }
 
 // The first clause with the role that fails.
@@ -95,7 +98,7 @@ pub fn first_failing(
     columns: &mut [u64],
     words: &mut [u64],
     rows: &mut [u64],
-) -> Failing
+) -> Option<Failing>
     requires laid { Laid nodes.now sizes.nodes sizes.cycles reach.now (trace_of sizes.cycles columns.old) columns.old words.old }
     requires known_role { (role ≤ last_role) × Sounds nodes.now sizes.nodes clauses.now sizes.clauses × (length rows.old ≡ 64) }
     ensures still_laid { Laid nodes.now sizes.nodes sizes.cycles reach.now (trace_of sizes.cycles columns.old) columns.new words.new }
@@ -103,13 +106,12 @@ pub fn first_failing(
     ensures failing_is { FailingIs (role_of role) (clause_at nodes.now clauses.now) sizes.clauses (trace_of sizes.cycles columns.old) result }
 {
     for k in 0..sizes.clauses {
-        let d = stored_at(clauses, k);
-        let place = role_place(role, d, sizes, nodes, reach, columns, words, rows);
-        if place < PLACES {
-            return Failing::At(k, place);
+        let found = role_place(role, k, clauses, sizes, nodes, reach, columns, words, rows);
+        if let Some(place) = found {
+            return Some(Failing { clause: k, place });
         }
     }
-    Failing::Nothing
+    None
 }
 
 // The advice that fails: a byte with bit k set if clause k is such.
@@ -130,9 +132,10 @@ pub fn failing_advice(
 {
     let mut advice = 0;
     for number in 0..sizes.clauses {
-        let d = stored_at(clauses, number);
-        let found = role_place(ADVICE, d, sizes, nodes, reach, columns, words, rows);
-        if found < PLACES {
+        let found = role_place(
+            ADVICE, number, clauses, sizes, nodes, reach, columns, words, rows,
+        );
+        if found.is_some() {
             advice |= 1usize << number;
         }
     }
