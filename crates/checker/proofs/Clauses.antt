@@ -20,6 +20,7 @@ use Rattle.tables.specs.Ready.{Given, with_names}
 use Rattle.tables.proofs.Columns.{names_columns, names_told}
 use Rattle.tables.proofs.Fills.{given_other}
 use Rattle.places.specs.declared.task.Task.{Task}
+use Rattle.places.specs.declared.walk.Aim.TheVariants.{Place}
 use Rattle.places.specs.declared.walk.Job.{Job}
 use Rattle.places.specs.declared.walk.Spot.{Spot}
 use Rattle.intervals.specs.Places.{places, numbered, IsLeast}
@@ -70,7 +71,7 @@ module _ {nodes reach columns words : List ℕ} {count n : ℕ} (l : Laid nodes 
     start = record { left = 3; cycles = 0 ∷ 0 ∷ 0 ∷ [] }
 
     abbrev looking : Job
-    looking = record { task = task; count = count; n = n; answering = false; names = task.quantified }
+    looking = record { task = task; count = count; n = n; aim = Place; names = task.quantified }
 
     -- the walk starts with every name on cycle 0, and looks everywhere
     pub clause_walkable : Walkable start looking places nodes reach columns words

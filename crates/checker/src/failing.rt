@@ -12,7 +12,7 @@ ghost use Rattle.checker.specs.Clauses.{Sound, Sounds, clause_at, PlaceIs, Faili
 
 use intervals::search::PLACES;
 use places::task::task_of;
-use places::walk::{Job, Spot, walk};
+use places::walk::{Aim, Job, Spot, walk};
 use stored::StoredClause;
 use stored::clauses::{ADVICE, stored_at};
 
@@ -52,7 +52,7 @@ fn clause_place(
         task,
         count: sizes.nodes,
         n: sizes.cycles,
-        answering: false,
+        aim: Aim::Place,
         names: task.quantified,
     };
     let spot = Spot {

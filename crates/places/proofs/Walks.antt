@@ -18,6 +18,8 @@ use Rattle.stored.specs.Node.{node_at}
 use Rattle.tables.specs.Table.{standing, Table, Tables}
 use Rattle.tables.specs.Ready.{with_names}
 use Rattle.places.specs.declared.task.Task.{Task}
+use Rattle.places.specs.declared.walk.Aim.{Aim}
+use Rattle.places.specs.declared.walk.Aim.TheVariants.{Place, Answers}
 use Rattle.places.specs.declared.walk.Job.{Job}
 use Rattle.places.specs.declared.walk.Spot.{Spot}
 use Rattle.intervals.specs.Gather.{gathered, Adds, Ends}
@@ -90,7 +92,7 @@ module _ {spot : Spot} {job : Job} {best : ℕ} {nodes reach columns words : Lis
 
   -- the names of the answer over the same placement
   abbrev pub within : Job
-  within = record { task = job.task; count = job.count; n = job.n; answering = true; names = job.task.replies }
+  within = record { task = job.task; count = job.count; n = job.n; aim = Answers; names = job.task.replies }
 
   abbrev pub afresh : Spot
   afresh = record { left = 3; cycles = spot.cycles }
@@ -163,6 +165,9 @@ module _ {nodes reach columns words : List ℕ} {count n : ℕ} {σ : Trace} (l 
       → Walked job nodes σ best r rows rows' over
   rewalked job {best} {r} {rows} {rows'} over a = subst (λ (τ : Trace). Walked job nodes τ best r rows rows' over) l.told a
 
+apart : Place ≡ Answers → ⊥
+apart e = cc
+
 -- ---- what a walk leaves at its ends
 -- a test of every placement with the next name on cycle t
 abbrev pub next_over : Job → Spot → ℕ → (Placement → Bool) → Bool
@@ -174,23 +179,23 @@ module _ (job : Job) (nodes : List ℕ) (σ : Trace) (spot : Spot) where
 
   pub walked_unneeded : {best : ℕ} {rows : List ℕ} → Unneeded spot job best nodes σ → Walked job nodes σ best best rows rows Over
   walked_unneeded u =
-      record { places = λ e. least_stay u.none; answers = λ e. absurd (false≢true (sym u.looking ∙ e)); most = omega arith }
+      record { places = λ e. least_stay u.none; answers = λ e. absurd (apart (sym u.looking ∙ e)); most = omega arith }
 
   last : (q : Placement → Bool) → spot.left ≡ 0 → q (standing spot.cycles) ≡ Over q
   unfolding over_last
   last q e = rw e refl
 
-  pub walked_answer : {best : ℕ} {rows rows' : List ℕ} → spot.left ≡ 0 → job.answering ≡ true
+  pub walked_answer : {best : ℕ} {rows rows' : List ℕ} → spot.left ≡ 0 → job.aim ≡ Answers
       → Adds job.n rows rows' (λ b e. reply_on nodes σ job.task b e (standing spot.cycles)) → Walked job nodes σ best best rows rows' Over
   walked_answer e is a =
       walked_ext job nodes σ {over = λ q. q (standing spot.cycles)} (λ q. last q e)
-      (record { places = λ not. absurd (false≢true (sym not ∙ is)); answers = λ _. a; most = omega arith })
+      (record { places = λ e. absurd (apart (sym e ∙ is)); answers = λ _. a; most = omega arith })
 
-  pub walked_find : {best r : ℕ} {rows rows' : List ℕ} → spot.left ≡ 0 → job.answering ≡ false
+  pub walked_find : {best r : ℕ} {rows rows' : List ℕ} → spot.left ≡ 0 → job.aim ≡ Place
       → IsLeast best (λ y. missed_on nodes σ job.n job.task y (standing spot.cycles)) r → Walked job nodes σ best r rows rows' Over
-  walked_find e not l =
+  walked_find e is l =
       walked_ext job nodes σ {over = λ q. q (standing spot.cycles)} (λ q. last q e)
-      (record { places = λ _. l; answers = λ is. absurd (false≢true (sym not ∙ is)); most = l.most })
+      (record { places = λ _. l; answers = λ e. absurd (apart (sym is ∙ e)); most = l.most })
 
   -- the walk of the next spot is one cycle of it
   pub walked_next : {best r : ℕ} {rows rows' : List ℕ} {next : Spot} (t : ℕ) → next ≡ with_next spot t
@@ -207,8 +212,13 @@ module _ (job : Job) (nodes : List ℕ) (σ : Trace) (spot : Spot) where
       walked_ext job nodes σ (λ q. ap (λ (z : ℕ). some_from low z (λ i. next_over job spot i q)) e ∙ level spot.cycles spot.left job.names job.n low last q long some three h l k) w
 
 -- ---- how many names are left falls
-pub places_above : (left m : ℕ) (answering : Bool) → answering ≡ false → left + cond answering 0 9 ≡ m → 8 < m
-places_above left m answering e f = let g : left + 9 ≡ m = ap (λ (b : Bool). left + cond b 0 9) (sym e) ∙ f in omega arith
+-- a walk for places lies above one for answers
+abbrev pub above : Aim → ℕ
+above Place = 9
+above Answers = 0
+
+pub places_above : (left m : ℕ) (aim : Aim) → aim ≡ Place → left + above aim ≡ m → 8 < m
+places_above left m aim e f = let g : left + 9 ≡ m = ap (λ (a : Aim). left + above a) (sym e) ∙ f in omega arith
 
 pub next_below : (spot next : Spot) (t x m : ℕ) → next ≡ with_next spot t → (spot.left ≡ 0 → ⊥) → spot.left + x ≡ m → next.left + x < m
 unfolding with_next

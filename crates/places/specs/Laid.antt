@@ -8,6 +8,7 @@ use Rattle.stored.specs.Clause.{part_of}
 use Rattle.tables.specs.Table.{standing, Inside, Tables}
 use Rattle.tables.specs.Ready.{Ready}
 use Rattle.places.specs.declared.task.Task.{Task}
+use Rattle.places.specs.declared.walk.Aim.TheVariants.{Place, Answers}
 use Rattle.places.specs.declared.walk.Job.{Job}
 use Rattle.places.specs.declared.walk.Spot.{Spot}
 use Rattle.intervals.specs.Gather.{Adds}
@@ -60,14 +61,14 @@ missed_on nodes σ n t y ν = numbered n (missed_task (node_at nodes) t σ (n - 
 
 -- no completion of the spot has an unanswered place before the best
 pub record Unneeded (spot : Spot) (job : Job) (best : ℕ) (nodes : List ℕ) (σ : Trace) : Type 0 where
-  pub looking : job.answering ≡ false
+  pub looking : job.aim ≡ Place
   pub none : (y : ℕ) → y < best → over_last spot.left (bit job.names) job.n (standing spot.cycles) (missed_on nodes σ job.n job.task y) ≡ false
 
 -- What a walk leaves, where `over` asks a test of every placement that it came to: the least unanswered place before the best, or rows
 -- that have gained the answers.
 pub record Walked (job : Job) (nodes : List ℕ) (σ : Trace) (best r : ℕ) (rows rows' : List ℕ) (over : (Placement → Bool) → Bool) : Type 0 where
-  pub places : job.answering ≡ false → IsLeast best (λ y. over (missed_on nodes σ job.n job.task y)) r
-  pub answers : job.answering ≡ true → Adds job.n rows rows' (λ b e. over (reply_on nodes σ job.task b e))
+  pub places : job.aim ≡ Place → IsLeast best (λ y. over (missed_on nodes σ job.n job.task y)) r
+  pub answers : job.aim ≡ Answers → Adds job.n rows rows' (λ b e. over (reply_on nodes σ job.task b e))
   pub most : r ≤ best
 
 -- the cycles that a walk goes through for one name: all of the trace if it moves, else the one on which it stands

@@ -24,14 +24,20 @@ pub struct Spot {
     pub cycles: [usize; 3],
 }
 
-// What never changes during a walk: the clause's task, how many nodes and cycles there are, whether the walk gathers answers or
-// looks for places, and the names that it moves.
+// What a walk does at each placement: it looks for the first unanswered place, or gathers the answers.
+#[derive(Clone, Copy)]
+pub enum Aim {
+    Place,
+    Answers,
+}
+
+// What never changes during a walk: the clause's task, how many nodes and cycles there are, the aim, and the names that are moved.
 #[derive(Clone, Copy)]
 pub struct Job {
     pub task: Task,
     pub count: usize,
     pub n: usize,
-    pub answering: bool,
+    pub aim: Aim,
     pub names: usize,
 }
 
@@ -74,7 +80,10 @@ fn hopeless(
     ensures laid { Laid nodes.now job.count job.n reach.now (trace_of job.n columns.old) columns.new words.new }
     ensures unneeded { result ≡ true → Unneeded spot job best nodes.now (trace_of job.n columns.old) }
 {
-    !job.answering & (best == 0)
+    match job.aim {
+        Aim::Place => best == 0,
+        Aim::Answers => false,
+    }
 }
 
 // Every type but pref starts from a premise.
@@ -164,7 +173,7 @@ fn find(
         task,
         count,
         n,
-        answering: true,
+        aim: Aim::Answers,
         names: task.replies,
     };
     let _ = walk(
@@ -203,11 +212,13 @@ pub fn walk(
     }
     let left = spot.left;
     if left == 0 {
-        if job.answering {
-            answer(spot, job, best, nodes, reach, columns, words, rows);
-            return best;
-        }
-        return find(spot, job, best, nodes, reach, columns, words, rows);
+        return match job.aim {
+            Aim::Place => find(spot, job, best, nodes, reach, columns, words, rows),
+            Aim::Answers => {
+                answer(spot, job, best, nodes, reach, columns, words, rows);
+                best
+            }
+        };
     }
     let u = 3 - left;
     let cycles = spot.cycles;

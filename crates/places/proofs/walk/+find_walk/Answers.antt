@@ -75,27 +75,23 @@ walk-returns-then-hopeless t c =
 pub walk-answer-requires : goal.walk-answer-requires
 walk-answer-requires t c = record { walkable = walkable_again c.requires.walkable c.hopeless.ensures.laid; rows_long = c.requires.rows_long }
 
-pub walk-returns-then-job : goal.walk-returns-then-job
-walk-returns-then-job t c =
+pub walk-returns-in-Answers-clause-walked : goal.walk-returns-in-Answers-clause-walked
+walk-returns-in-Answers-clause-walked t c =
     let a = c.args in
-    let h = c.hopeless.ensures.laid in
-    let r = c.answer.ensures in
-    let added = readded h a.job.task (standing a.spot.cycles) r.adds in
-    record { laid = relaid h r.laid; rows_kept = r.rows_kept; walked = walked_answer a.job a.nodes.now _ a.spot c.if-left-eq0.true c.if-job.true added }
+    let added = readded c.hopeless.ensures.laid a.job.task (standing a.spot.cycles) c.answer.ensures.adds in
+    walked_answer a.job a.nodes.now _ a.spot c.if-left-eq0.true c.in-Answers.is added
 
 pub walk-find-requires : goal.walk-find-requires
 walk-find-requires t c =
     let p = c.requires in
     let a = c.args in
-    (places_above a.spot.left t a.job.answering c.if-job.false c.decreases, (walkable_again p.walkable c.hopeless.ensures.laid, p.rows_long))
+    (places_above a.spot.left t a.job.aim c.in-Place.is c.decreases, (walkable_again p.walkable c.hopeless.ensures.laid, p.rows_long))
 
-pub walk-returns-then-left-eq0 : goal.walk-returns-then-left-eq0
-walk-returns-then-left-eq0 t c =
+pub walk-returns-in-Place-clause-walked : goal.walk-returns-in-Place-clause-walked
+walk-returns-in-Place-clause-walked t c =
     let a = c.args in
-    let h = c.hopeless.ensures.laid in
-    let r = c.find.ensures in
-    let found = refound h a.job.task (standing a.spot.cycles) r.least in
-    record { laid = relaid h r.laid; rows_kept = r.rows_kept; walked = walked_find a.job a.nodes.now _ a.spot c.if-left-eq0.true c.if-job.false found }
+    let found = refound c.hopeless.ensures.laid a.job.task (standing a.spot.cycles) c.find.ensures.least in
+    walked_find a.job a.nodes.now _ a.spot c.if-left-eq0.true c.in-Place.is found
 
 pub walk-cycles_of-first-requires : goal.walk-cycles_of-first-requires
 unfolding standing

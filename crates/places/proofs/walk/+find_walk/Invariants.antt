@@ -1,10 +1,10 @@
 -- The cycle of calls {find, walk}: a walk for places comes to `find` once no name is left, and that walks over the names of the answer.
 -- A walk's measure is how many names are left, and for places it lies above the other's.
-use Rattle.std.proofs.Common.{◌+◌, ◌-◌, ◌≡◌, ◌≤◌, length, cond}
+use Rattle.std.proofs.Common.{◌+◌, ◌-◌, ◌≡◌, ◌≤◌, length}
 use Rattle.semantics.specs.Cycles.{some_from}
 use Rattle.traces.specs.Columns.{trace_of}
 use Rattle.places.specs.Laid.{Laid, Walked}
-use Rattle.places.proofs.Walks.{next_over}
+use Rattle.places.proofs.Walks.{next_over, above}
 use Rattle.places.proofs.walk.+find_walk.Given as goal
 
 -- 8 for `find`, and for a walk the names left, with 9 more for one that looks for places
@@ -12,7 +12,7 @@ abbrev pub decreases-find : goal.decreases-find
 decreases-find l = 8
 
 abbrev pub decreases-walk : goal.decreases-walk
-decreases-walk l = l.spot.left + cond l.job.answering 0 9
+decreases-walk l = l.spot.left + above l.job.aim
 
 abbrev pub invariant-walk-loop-t : goal.invariant-walk-loop-t
 invariant-walk-loop-t l =
