@@ -92,7 +92,7 @@ module _ {spot : Spot} {job : Job} {best : ℕ} {nodes reach columns words : Lis
 
   -- the names of the answer over the same placement
   abbrev pub within : Job
-  within = record { task = job.task; count = job.count; n = job.n; aim = Answers; names = job.task.replies }
+  within = record { task = job.task; nodes = job.nodes; reach = job.reach; count = job.count; n = job.n; aim = Answers; names = job.task.replies }
 
   abbrev pub afresh : Spot
   afresh = record { left = 3; cycles = spot.cycles }

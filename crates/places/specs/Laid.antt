@@ -22,6 +22,10 @@ pub record Laid (nodes : List ℕ) (count n : ℕ) (reach : List ℕ) (σ : Trac
   pub tables : Tables (node_at nodes) count n columns words
   pub told : trace_of n columns ≡ σ
 
+-- the same, for a walk's nodes
+abbrev pub LaidFor : Job → Trace → List ℕ → List ℕ → Type 0
+LaidFor job = Laid job.nodes.now job.count job.n job.reach.now
+
 -- node i is one of the formulas
 pub record IsFormula (nodes : List ℕ) (count i : ℕ) : Type 0 where
   pub below : i < count
