@@ -50,6 +50,8 @@ fn clause_place(
     let task = task_of(d);
     let job = Job {
         task,
+        nodes,
+        reach,
         count: sizes.nodes,
         n: sizes.cycles,
         aim: Aim::Place,
@@ -59,7 +61,7 @@ fn clause_place(
         left: 3,
         cycles: [0; 3],
     };
-    walk(spot, job, PLACES, nodes, reach, columns, words, rows)
+    walk(spot, job, PLACES, columns, words, rows)
 }
 
 // The number of clause k's first broken place, if it has the role and fails.

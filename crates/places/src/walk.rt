@@ -71,9 +71,9 @@ fn cycles_of(moves: bool, n: usize, at: usize) -> (usize, usize)
 
 // Whether no completion of the spot has an unanswered place before the best: the walk then passes over them all.
 fn hopeless(spot: Spot, job: Job, best: usize, columns: &mut [u64], words: &mut [u64]) -> bool
-    requires { Walkable spot job best job.nodes.now job.reach.now columns.old words.old }
+    requires { Walkable spot job best columns.old words.old }
     ensures laid { LaidFor job.entry (trace_of job.entry.n columns.old) columns.new words.new }
-    ensures unneeded { result ≡ true → Unneeded spot job.entry best job.entry.nodes.now (trace_of job.entry.n columns.old) }
+    ensures unneeded { result ≡ true → Unneeded spot job.entry best (trace_of job.entry.n columns.old) }
 {
     match job.aim {
         Aim::Place => best == 0,
@@ -104,7 +104,7 @@ fn answer(
     words: &mut [u64],
     rows: &mut [u64],
 )
-    requires walkable { Walkable spot job best job.nodes.now job.reach.now columns.old words.old }
+    requires walkable { Walkable spot job best columns.old words.old }
     requires rows_long { length rows.old ≡ 64 }
     ensures laid { LaidFor job.entry (trace_of job.entry.n columns.old) columns.new words.new }
     ensures rows_kept { length rows.new ≡ 64 }
@@ -128,7 +128,7 @@ fn find(
     words: &mut [u64],
     rows: &mut [u64],
 ) -> usize
-    requires walkable { Walkable spot job best job.nodes.now job.reach.now columns.old words.old }
+    requires walkable { Walkable spot job best columns.old words.old }
     requires rows_long { length rows.old ≡ 64 }
     ensures laid { LaidFor job.entry (trace_of job.entry.n columns.old) columns.new words.new }
     ensures rows_kept { length rows.new ≡ 64 }
@@ -178,11 +178,11 @@ pub fn walk(
     words: &mut [u64],
     rows: &mut [u64],
 ) -> usize
-    requires walkable { Walkable spot job best job.nodes.now job.reach.now columns.old words.old }
+    requires walkable { Walkable spot job best columns.old words.old }
     requires rows_long { length rows.old ≡ 64 }
     ensures laid { LaidFor job.entry (trace_of job.entry.n columns.old) columns.new words.new }
     ensures rows_kept { length rows.new ≡ 64 }
-    ensures walked { Walked job.entry job.entry.nodes.now (trace_of job.entry.n columns.old) best result rows.old rows.new (over_last spot.left (bit job.entry.names) job.entry.n (standing spot.cycles)) }
+    ensures walked { Walked job.entry (trace_of job.entry.n columns.old) best result rows.old rows.new (over_last spot.left (bit job.entry.names) job.entry.n (standing spot.cycles)) }
 {
     if hopeless(spot, job, best, columns, words) {
         return best;

@@ -19,5 +19,5 @@ invariant-walk-loop-t l =
     LaidFor l.job (trace_of l.job.n l.initial.columns) l.columns l.words
     × (length l.columns ≡ length l.initial.columns) × (length l.words ≡ length l.initial.words) × (length l.rows ≡ 64)
     × (l.first ≤ l.t) × (l.t ≤ l.end)
-    × Walked l.job l.job.nodes.now (trace_of l.job.n l.initial.columns) l.best l.least l.initial.rows l.rows
+    × Walked l.job (trace_of l.job.n l.initial.columns) l.best l.least l.initial.rows l.rows
     (λ q. some_from l.first l.t (λ i. next_over l.job l.spot i q))
