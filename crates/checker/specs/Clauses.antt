@@ -10,9 +10,14 @@ use Rattle.stored.specs.Layout.{clause_size, most_clauses}
 use Rattle.stored.specs.Clause.{last_role, stored_at, clause_of}
 use Rattle.intervals.specs.Places.{places, numbered, IsLeast}
 use Rattle.places.specs.Task.{task_of}
-use Rattle.places.specs.Laid.{Formulas}
+use Rattle.places.specs.Laid.{Laid, Formulas}
 use Rattle.checker.specs.declared.check.Place.{Place}
 use Rattle.checker.specs.declared.failing.Failing.{Failing}
+use Rattle.checker.specs.declared.failing.Parts.{Parts}
+
+-- the words are right for the columns, over the nodes of these parts
+abbrev pub LaidOver : Parts → Trace → List ℕ → List ℕ → Type 0
+LaidOver parts = Laid parts.nodes.now parts.sizes.nodes parts.sizes.cycles parts.reach.now
 
 -- a stored clause that the check takes
 pub record Sound (nodes : List ℕ) (count : ℕ) (d : StoredClause) : Type 0 where

@@ -15,21 +15,21 @@ pub returns-in-Some : goal.returns-in-Some
 unfolding role_of
 returns-in-Some c =
     let a = c.args in
-    finding_excused (clause_at a.nodes.now a.clauses.now) a.sizes.clauses (trace_of a.sizes.cycles a.columns.now) _ c.in-Some.ensures.failing_is
+    finding_excused (clause_at a.parts.nodes.now a.parts.clauses.now) a.parts.sizes.clauses (trace_of a.parts.sizes.cycles a.columns.now) _ c.in-Some.ensures.failing_is
 
 pub returns-in-Some-commitment : goal.returns-in-Some-commitment
 unfolding role_of
 returns-in-Some-commitment c =
     let a = c.args in
-    let f = clause_at a.nodes.now a.clauses.now in
+    let f = clause_at a.parts.nodes.now a.parts.clauses.now in
     ap Broken c.place_of.ensures
-    ∙ finding_broken f a.sizes.clauses (trace_of a.sizes.cycles a.columns.now) c.in-Some-commitment.failing (short_trace c.requires.laid) c.in-None.ensures.failing_is
-    (subst (λ (σ : Trace). First commitment f a.sizes.clauses σ c.in-Some-commitment.failing) c.first_failing-assumption.ensures.still_laid.told c.in-Some-commitment.ensures.failing_is)
+    ∙ finding_broken f a.parts.sizes.clauses (trace_of a.parts.sizes.cycles a.columns.now) c.in-Some-commitment.failing (short_trace c.requires.laid) c.in-None.ensures.failing_is
+    (subst (λ (σ : Trace). First commitment f a.parts.sizes.clauses σ c.in-Some-commitment.failing) c.first_failing-assumption.ensures.still_laid.told c.in-Some-commitment.ensures.failing_is)
 
 pub returns-in-None-commitment : goal.returns-in-None-commitment
 unfolding role_of
 returns-in-None-commitment c =
     let a = c.args in
-    let f = clause_at a.nodes.now a.clauses.now in
-    finding_holds f a.sizes.clauses (trace_of a.sizes.cycles a.columns.now) c.in-None.ensures.failing_is
-    (subst (λ (σ : Trace). (k : ℕ) → k < a.sizes.clauses → fails_as commitment σ (f k) ≡ false) c.first_failing-assumption.ensures.still_laid.told c.in-None-commitment.ensures.failing_is)
+    let f = clause_at a.parts.nodes.now a.parts.clauses.now in
+    finding_holds f a.parts.sizes.clauses (trace_of a.parts.sizes.cycles a.columns.now) c.in-None.ensures.failing_is
+    (subst (λ (σ : Trace). (k : ℕ) → k < a.parts.sizes.clauses → fails_as commitment σ (f k) ≡ false) c.first_failing-assumption.ensures.still_laid.told c.in-None-commitment.ensures.failing_is)

@@ -23,8 +23,8 @@ loop-number-preserved c =
     let a = c.args in
     let r = c.role_place-found in
     let less = c.loop-number-test.true in
-    let p = advised (clause_at a.nodes.now a.clauses.now) (trace_of a.sizes.cycles a.columns.now) in
-    let fails = fails_if_some clause.advice (clause_at a.nodes.now a.clauses.now l.number) _ r.result (subst (λ (σ : Trace). PlaceIs clause.advice (clause_at a.nodes.now a.clauses.now l.number) σ r.result) l.invariant.0.told r.ensures.place_is) ∙ sym c.is_some.ensures in (
+    let p = advised (clause_at a.parts.nodes.now a.parts.clauses.now) (trace_of a.parts.sizes.cycles a.columns.now) in
+    let fails = fails_if_some clause.advice (clause_at a.parts.nodes.now a.parts.clauses.now l.number) _ r.result (subst (λ (σ : Trace). PlaceIs clause.advice (clause_at a.parts.nodes.now a.parts.clauses.now l.number) σ r.result) l.invariant.0.told r.ensures.place_is) ∙ sym c.is_some.ensures in (
       relaid l.invariant.0 r.ensures.still_laid,
       r.auto.columns ∙ l.invariant.1,
       r.auto.words ∙ l.invariant.2,
@@ -40,7 +40,7 @@ pub returns-clause-value : goal.returns-clause-value
 returns-clause-value c =
     let l = c.loop-number in
     let a = c.args in
-    let end : l.number ≡ a.sizes.clauses = omega (arith, c.loop-number-test.false, l.invariant.4) in
-    let f : ℕ → clause.Clause = clause_at a.nodes.now a.clauses.now in
-    let σ = trace_of a.sizes.cycles a.columns.now in
-    l.invariant.5 ∙ ap (λ (n : ℕ). word n (advised f σ)) end ∙ advice_word a.sizes.clauses f σ
+    let end : l.number ≡ a.parts.sizes.clauses = omega (arith, c.loop-number-test.false, l.invariant.4) in
+    let f : ℕ → clause.Clause = clause_at a.parts.nodes.now a.parts.clauses.now in
+    let σ = trace_of a.parts.sizes.cycles a.columns.now in
+    l.invariant.5 ∙ ap (λ (n : ℕ). word n (advised f σ)) end ∙ advice_word a.parts.sizes.clauses f σ

@@ -17,7 +17,7 @@ returns-then-d-role-clause-place_is c =
     let a = c.args in
     let q = c.requires.known_role in
     let role = ap (λ (d : StoredClause). d.role) c.stored_at-d.ensures in
-    other_role (node_at a.nodes.now) (stored_at a.clauses.now a.k) a.role q.0 (q.2.sound a.k q.1).role_most (trace_of a.sizes.cycles a.columns.now)
+    other_role (node_at a.parts.nodes.now) (stored_at a.parts.clauses.now a.k) a.role q.0 (q.2.sound a.k q.1).role_most (trace_of a.parts.sizes.cycles a.columns.now)
     (λ e. c.if-d-role.true (role ∙ e))
 
 pub returns-then-place-lt-PLACES-clause-place_is : goal.returns-then-place-lt-PLACES-clause-place_is
@@ -25,9 +25,9 @@ unfolding clause_at
 returns-then-place-lt-PLACES-clause-place_is c =
     let a = c.args in
     let q = c.requires.known_role in
-    let x = node_at a.nodes.now in
-    let d = stored_at a.clauses.now a.k in
-    let σ = trace_of a.sizes.cycles a.columns.now in
+    let x = node_at a.parts.nodes.now in
+    let d = stored_at a.parts.clauses.now a.k in
+    let σ = trace_of a.parts.sizes.cycles a.columns.now in
     let r = c.clause_place-place in
     let role = ap (λ (d : StoredClause). d.role) c.stored_at-d.ensures in
     let least = subst (λ (d : StoredClause). IsLeast places (numbered (length σ) (breaks (clause_of x d) σ)) r.result) c.stored_at-d.ensures r.ensures.least in
@@ -39,9 +39,9 @@ unfolding clause_at
 returns-else-place-lt-PLACES-clause-place_is c =
     let a = c.args in
     let q = c.requires.known_role in
-    let x = node_at a.nodes.now in
-    let d = stored_at a.clauses.now a.k in
-    let σ = trace_of a.sizes.cycles a.columns.now in
+    let x = node_at a.parts.nodes.now in
+    let d = stored_at a.parts.clauses.now a.k in
+    let σ = trace_of a.parts.sizes.cycles a.columns.now in
     let r = c.clause_place-place in
     let least = subst (λ (d : StoredClause). IsLeast places (numbered (length σ) (breaks (clause_of x d) σ)) r.result) c.stored_at-d.ensures r.ensures.least in
     no_place x d a.role q.0 (q.2.sound a.k q.1).role_most σ (short_trace c.requires.laid) r.result least c.if-place-lt-PLACES.false
