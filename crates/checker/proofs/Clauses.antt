@@ -5,6 +5,7 @@ use mathlib.Core.Bool.{false}
 use mathlib.Core.List.{List, [], ◌∷◌}
 use mathlib.Core.Path.{◌≡◌, refl, sym, ap, ap₂, subst, ◌∙◌}
 use lib.ListN.{length}
+use Rattle.std.proofs.Common.{Bor}
 use Rattle.semantics.specs.Proposition.{Trace, bit}
 use Rattle.semantics.specs.Placement.{some_placement}
 use Rattle.semantics.specs.Clause.{Clause, breaks}
@@ -20,6 +21,7 @@ use Rattle.tables.specs.Ready.{Given, with_names}
 use Rattle.tables.proofs.Columns.{names_columns, names_told}
 use Rattle.tables.proofs.Fills.{given_other}
 use Rattle.places.specs.declared.task.Task.{Task}
+use Rattle.places.specs.declared.walk.Aim.TheVariants.{Place}
 use Rattle.places.specs.declared.walk.Job.{Job}
 use Rattle.places.specs.declared.walk.Spot.{Spot}
 use Rattle.intervals.specs.Places.{places, numbered, IsLeast}
@@ -66,24 +68,6 @@ module _ {nodes reach columns words : List ℕ} {count n : ℕ} (l : Laid nodes 
   short_trace = let few = l.ready.given.few_cycles in let long = told_length n columns in omega arith
 
   module _ (d : StoredClause) (task : Task) (e : task ≡ task_of d) (s : Sound nodes count d) where
-    abbrev start : Spot
-    start = record { left = 3; cycles = 0 ∷ 0 ∷ 0 ∷ [] }
-
-    abbrev looking : Job
-    looking = record { task = task; count = count; n = n; answering = false; names = task.quantified }
-
-    -- the walk starts with every name on cycle 0, and looks everywhere
-    pub clause_walkable : Walkable start looking places nodes reach columns words
-    clause_walkable =
-        record {
-          laid = l;
-          formulas = subst (λ (t : Task). Formulas nodes count t) (sym e) s.formulas;
-          three = omega arith;
-          long = refl;
-          inside = all_first l.ready.given.some_cycles;
-          few = omega arith;
-        }
-
     pub clause_least : (r : ℕ) → IsLeast places (λ y. over_last 3 (bit task.quantified) n (standing (0 ∷ 0 ∷ 0 ∷ [])) (missed_on nodes (trace_of n columns) n task y)) r
         → IsLeast places (numbered (length (trace_of n columns)) (breaks (clause_of (node_at nodes) d) (trace_of n columns))) r
     unfolding over_last missed_on some_placement
@@ -98,3 +82,22 @@ module _ {nodes reach columns words : List ℕ} {count n : ℕ} (l : Laid nodes 
         (subst
         (λ (t : Task). IsLeast places (λ y. some_placement (bit t.quantified) 0 (n - 1) (standing (0 ∷ 0 ∷ 0 ∷ [])) (λ ν. numbered n (missed_task (node_at nodes) t (trace_of n columns) (n - 1) ν) y)) r)
         e least))
+
+-- the walk for a clause starts with every name on cycle 0, and looks everywhere
+module _ (bytes masks : Bor (List ℕ)) {columns words : List ℕ} {count n : ℕ} (l : Laid bytes.now count n masks.now (trace_of n columns) columns words) where
+  abbrev start : Spot
+  start = record { left = 3; cycles = 0 ∷ 0 ∷ 0 ∷ [] }
+
+  abbrev looking : Task → Job
+  looking task = record { task = task; nodes = bytes; reach = masks; count = count; n = n; aim = Place; names = task.quantified }
+
+  pub clause_walkable : (d : StoredClause) (task : Task) → task ≡ task_of d → Sound bytes.now count d → Walkable start (looking task) places columns words
+  clause_walkable d task e s =
+      record {
+        laid = l;
+        formulas = subst (λ (t : Task). Formulas bytes.now count t) (sym e) s.formulas;
+        three = omega arith;
+        long = refl;
+        inside = all_first l.ready.given.some_cycles;
+        few = omega arith;
+      }

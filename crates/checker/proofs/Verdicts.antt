@@ -29,6 +29,7 @@ use Rattle.checker.specs.declared.check.Finding.TheVariants.{Excused, Broken, Ho
 use Rattle.intervals.specs.Places.{places, numbered, IsLeast}
 use Rattle.checker.specs.declared.failing.Failing.{Failing}
 use Rattle.checker.specs.Check.{told}
+use Rattle.std.proofs.Common.{Option, None, Some, is_some}
 use Rattle.checker.specs.Clauses.{PlaceIs, First, FailingIs, clause_at, place_of}
 use Rattle.places.specs.Laid.{Laid}
 use Rattle.intervals.proofs.Places.{fails_least, place_least}
@@ -69,22 +70,24 @@ broken_at from (suc n) f σ v (suc k) l h e =
     ∙ ap (λ (c : ℕ). semantics.Broken (first_place c (length σ) (breaks (f (suc k)) σ))) z)
 
 module _ (f : ℕ → Clause) (c : ℕ) (σ : Trace) where
-  pub finding_excused : (k place : ℕ) → First assumption_role f c σ k place → Excused k ≡ told (finding_of (in_order c f) σ)
+  pub finding_excused : (x : Failing) → First assumption_role f c σ x → Excused x.clause ≡ told (finding_of (in_order c f) σ)
   unfolding finding_of told
-  finding_excused k place w =
+  finding_excused x w =
+      let k = x.clause in
       let z : 0 + k ≡ k = omega arith in
-      sym (ap told (excused_at 0 c f σ (broken_or 0 (in_order c f) σ semantics.Holds) k w.below w.before w.fails ∙ ap semantics.Excused z))
+      sym (ap told (excused_at 0 c f σ (broken_or 0 (in_order c f) σ semantics.Holds) k w.below w.before w.here.fails ∙ ap semantics.Excused z))
 
-  pub finding_broken : (k place : ℕ) → length σ ≤ 64 → ((j : ℕ) → j < c → fails_as assumption_role σ (f j) ≡ false) → First commitment f c σ k place
-      → Broken (place_of k place) ≡ told (finding_of (in_order c f) σ)
+  pub finding_broken : (x : Failing) → length σ ≤ 64 → ((j : ℕ) → j < c → fails_as assumption_role σ (f j) ≡ false) → First commitment f c σ x
+      → Broken (place_of x.clause x.place) ≡ told (finding_of (in_order c f) σ)
   unfolding finding_of told place_of
-  finding_broken k place short h w =
+  finding_broken x short h w =
+      let k = x.clause in
       let z : 0 + k ≡ k = omega arith in
       sym (ap told
       (excused_none 0 c f σ (broken_or 0 (in_order c f) σ semantics.Holds) h
-      ∙ broken_at 0 c f σ semantics.Holds k w.below w.before w.fails
+      ∙ broken_at 0 c f σ semantics.Holds k w.below w.before w.here.fails
       ∙ ap (λ (n : ℕ). semantics.Broken (first_place n (length σ) (breaks (f k) σ))) z
-      ∙ ap semantics.Broken (place_least (f k) σ short place w.least k w.found)))
+      ∙ ap semantics.Broken (place_least (f k) σ short x.place w.here.least k w.here.found)))
 
   pub finding_holds : ((j : ℕ) → j < c → fails_as assumption_role σ (f j) ≡ false) → ((j : ℕ) → j < c → fails_as commitment σ (f j) ≡ false)
       → Holds ≡ told (finding_of (in_order c f) σ)
@@ -135,16 +138,7 @@ one_more p k f e j h =
     let o : j ≤ k = omega arith in
     elim (eq-or-lt_of_le o) [ inl q ↦ rw q e | inr l ↦ f j l ]
 
--- the place of a stored clause that was read, over the trace that was told before
-pub place_at : {reach columns words : List ℕ} {count n place : ℕ} {σ : Trace} {d : StoredClause} (nodes clauses : List ℕ) (k : ℕ) (role : Role) → Laid nodes count n reach σ columns words
-    → d ≡ stored_at clauses k → PlaceIs role (clause_of (node_at nodes) d) (trace_of n columns) place → PlaceIs role (clause_at nodes clauses k) σ place
-unfolding clause_at
-place_at {place = place} {σ} {d} nodes clauses k role l e p =
-    subst (λ (d : StoredClause). PlaceIs role (clause_of (node_at nodes) d) σ place) e
-    (subst (λ (τ : Trace). PlaceIs role (clause_of (node_at nodes) d) τ place) l.told p)
-
--- the first failing clause that was told, over the trace that was told before
-pub failing_again : {nodes reach columns words : List ℕ} {count n : ℕ} {σ : Trace} {x y : Failing} (role : Role) (f : ℕ → Clause) (c : ℕ) → Laid nodes count n reach σ columns words
-    → x ≡ y → FailingIs role f c (trace_of n columns) x → FailingIs role f c σ y
-failing_again {σ = σ} {x} role f c l e w =
-    subst (λ (z : Failing). FailingIs role f c σ z) e (subst (λ (τ : Trace). FailingIs role f c τ x) l.told w)
+-- whether a clause fails in its role, by whether it has a first broken place
+pub fails_if_some : (r : Role) (c : Clause) (σ : Trace) (place : Option ℕ) → PlaceIs r c σ place → fails_as r σ c ≡ is_some place
+fails_if_some r c σ None e = e
+fails_if_some r c σ (Some x) h = h.fails

@@ -4,12 +4,11 @@ ghost use Rattle.stored.specs.Bytes.{in_order};
 ghost use Rattle.traces.specs.Columns.{trace_of};
 ghost use Rattle.semantics.specs.Verdict.{finding_of, verdict};
 ghost use Rattle.tables.specs.Ready.{Given};
-ghost use Rattle.places.specs.Laid.{Laid};
 ghost use Rattle.checker.specs.Table.{words_after};
 ghost use Rattle.checker.specs.Check.{told, told_whole, check_answer, check_refusal};
-ghost use Rattle.checker.specs.Clauses.{Sounds, clause_at, place_of};
+ghost use Rattle.checker.specs.Clauses.{LaidOver, Sounds, clause_at, place_of};
 
-use crate::failing::{Failing, Sizes, failing_advice, first_failing};
+use crate::failing::{Parts, Sizes, failing_advice, first_failing};
 use stored::clauses::{ASSUMPTION, COMMITMENT};
 use stored::layout::LEAST_WORDS;
 use stored::masks::reach_table;
@@ -56,31 +55,19 @@ fn place_of(clause: usize, number: usize) -> Place
 }
 
 // The finding over tables in the words.
-fn finding_over(
-    clauses: &[u8],
-    sizes: Sizes,
-    nodes: &[u8],
-    reach: &[usize],
-    columns: &mut [u64],
-    words: &mut [u64],
-    rows: &mut [u64],
-) -> Finding
-    requires laid { Laid nodes.now sizes.nodes sizes.cycles reach.now (trace_of sizes.cycles columns.old) columns.old words.old }
-    requires sounds { Sounds nodes.now sizes.nodes clauses.now sizes.clauses × (length rows.old ≡ 64) }
-    ensures { result ≡ told (finding_of (in_order sizes.clauses (clause_at nodes.now clauses.now)) (trace_of sizes.cycles columns.old)) }
+fn finding_over(parts: Parts, columns: &mut [u64], words: &mut [u64], rows: &mut [u64]) -> Finding
+    requires laid { LaidOver parts (trace_of parts.sizes.cycles columns.old) columns.old words.old }
+    requires sounds { Sounds parts.nodes.now parts.sizes.nodes parts.clauses.now parts.sizes.clauses × (length rows.old ≡ 64) }
+    ensures { result ≡ told (finding_of (in_order parts.entry.sizes.clauses (clause_at parts.entry.nodes.now parts.entry.clauses.now)) (trace_of parts.entry.sizes.cycles columns.old)) }
 {
-    let assumption = first_failing(
-        ASSUMPTION, clauses, sizes, nodes, reach, columns, words, rows,
-    );
+    let assumption = first_failing(ASSUMPTION, parts, columns, words, rows);
     match assumption {
-        Failing::At(clause, _) => Finding::Excused(clause),
-        Failing::Nothing => {
-            let commitment = first_failing(
-                COMMITMENT, clauses, sizes, nodes, reach, columns, words, rows,
-            );
+        Some(failing) => Finding::Excused(failing.clause),
+        None => {
+            let commitment = first_failing(COMMITMENT, parts, columns, words, rows);
             match commitment {
-                Failing::At(clause, number) => Finding::Broken(place_of(clause, number)),
-                Failing::Nothing => Finding::Holds,
+                Some(failing) => Finding::Broken(place_of(failing.clause, failing.place)),
+                None => Finding::Holds,
             }
         }
     }
@@ -103,8 +90,14 @@ fn verdict_of(
     let reach = reach_table(nodes, count);
     let mut rows = [0u64; 64];
     lay_first(nodes, count, sizes.cycles, [0; 3], columns, words);
-    let advice = failing_advice(clauses, sizes, nodes, &reach, columns, words, &mut rows);
-    let finding = finding_over(clauses, sizes, nodes, &reach, columns, words, &mut rows);
+    let parts = Parts {
+        nodes,
+        reach: &reach,
+        clauses,
+        sizes,
+    };
+    let advice = failing_advice(parts, columns, words, &mut rows);
+    let finding = finding_over(parts, columns, words, &mut rows);
     clear(words);
     Verdict { finding, advice }
 }

@@ -1,5 +1,5 @@
 // The clauses that fail: where one fails first, the first with a role, and the advice.
-ghost use Rattle.std.specs.Prelude.{◌≡◌, ◌≤◌, length};
+ghost use Rattle.std.specs.Prelude.{◌≡◌, ◌<◌, ◌≤◌, length};
 ghost use Rattle.semantics.specs.Clause.{breaks};
 ghost use Rattle.semantics.specs.Verdict.{advice_of};
 ghost use Rattle.stored.specs.Bytes.{in_order};
@@ -7,20 +7,19 @@ ghost use Rattle.stored.specs.Node.{node_at};
 ghost use Rattle.stored.specs.Clause.{last_role, clause_of, role_of};
 ghost use Rattle.traces.specs.Columns.{trace_of};
 ghost use Rattle.intervals.specs.Places.{places, numbered, IsLeast};
-ghost use Rattle.places.specs.Laid.{Laid};
-ghost use Rattle.checker.specs.Clauses.{Sound, Sounds, clause_at, PlaceIs, FailingIs};
+ghost use Rattle.checker.specs.Clauses.{LaidOver, Sound, Sounds, clause_at, PlaceIs, FailingIs};
 
 use intervals::search::PLACES;
 use places::task::task_of;
-use places::walk::{Job, Spot, walk};
+use places::walk::{Aim, Job, Spot, walk};
 use stored::StoredClause;
 use stored::clauses::{ADVICE, stored_at};
 
 // A failing clause, with the number of its first broken place.
-#[derive(Drop)]
-pub enum Failing {
-    At(usize, usize),
-    Nothing,
+#[derive(Clone, Copy)]
+pub struct Failing {
+    pub clause: usize,
+    pub place: usize,
 }
 
 // How many nodes, clauses and cycles a check goes over.
@@ -31,108 +30,109 @@ pub struct Sizes {
     pub cycles: usize,
 }
 
-// The number of a clause's first broken place, or PLACES.
+// The parts of an accepted sheet over a trace, with which names its nodes reach.
+#[derive(Clone, Copy)]
+pub struct Parts<'a> {
+    pub nodes: &'a [u8],
+    pub reach: &'a [usize],
+    pub clauses: &'a [u8],
+    pub sizes: Sizes,
+}
+
+// The number of a clause's first broken place; PLACES, at which the walk for it begins, where there is none.
 fn clause_place(
     d: StoredClause,
-    sizes: Sizes,
-    nodes: &[u8],
-    reach: &[usize],
+    parts: Parts,
     columns: &mut [u64],
     words: &mut [u64],
     rows: &mut [u64],
 ) -> usize
-    requires laid { Laid nodes.now sizes.nodes sizes.cycles reach.now (trace_of sizes.cycles columns.old) columns.old words.old }
-    requires sound { Sound nodes.now sizes.nodes d × (length rows.old ≡ 64) }
-    ensures still_laid { Laid nodes.now sizes.nodes sizes.cycles reach.now (trace_of sizes.cycles columns.old) columns.new words.new }
+    requires laid { LaidOver parts (trace_of parts.sizes.cycles columns.old) columns.old words.old }
+    requires sound { Sound parts.nodes.now parts.sizes.nodes d × (length rows.old ≡ 64) }
+    ensures still_laid { LaidOver parts.entry (trace_of parts.entry.sizes.cycles columns.old) columns.new words.new }
     ensures rows_long { length rows.new ≡ 64 }
-    ensures least { IsLeast places (numbered (length (trace_of sizes.cycles columns.old)) (breaks (clause_of (node_at nodes.now) d) (trace_of sizes.cycles columns.old))) result }
+    ensures least { IsLeast places (numbered (length (trace_of parts.entry.sizes.cycles columns.old)) (breaks (clause_of (node_at parts.entry.nodes.now) d) (trace_of parts.entry.sizes.cycles columns.old))) result }
 {
     let task = task_of(d);
     let job = Job {
         task,
-        count: sizes.nodes,
-        n: sizes.cycles,
-        answering: false,
+        nodes: parts.nodes,
+        reach: parts.reach,
+        count: parts.sizes.nodes,
+        n: parts.sizes.cycles,
+        aim: Aim::Place,
         names: task.quantified,
     };
     let spot = Spot {
         left: 3,
         cycles: [0; 3],
     };
-    walk(spot, job, PLACES, nodes, reach, columns, words, rows)
+    walk(spot, job, PLACES, columns, words, rows)
 }
 
-// The same if the clause has the role; PLACES if it has another.
+// The number of clause k's first broken place, if it has the role and fails.
 fn role_place(
     role: usize,
-    d: StoredClause,
-    sizes: Sizes,
-    nodes: &[u8],
-    reach: &[usize],
+    k: usize,
+    parts: Parts,
     columns: &mut [u64],
     words: &mut [u64],
     rows: &mut [u64],
-) -> usize
-    requires laid { Laid nodes.now sizes.nodes sizes.cycles reach.now (trace_of sizes.cycles columns.old) columns.old words.old }
-    requires known_role { (role ≤ last_role) × Sound nodes.now sizes.nodes d × (length rows.old ≡ 64) }
-    ensures still_laid { Laid nodes.now sizes.nodes sizes.cycles reach.now (trace_of sizes.cycles columns.old) columns.new words.new }
+) -> Option<usize>
+    requires laid { LaidOver parts (trace_of parts.sizes.cycles columns.old) columns.old words.old }
+    requires known_role { (role ≤ last_role) × (k < parts.sizes.clauses) × Sounds parts.nodes.now parts.sizes.nodes parts.clauses.now parts.sizes.clauses × (length rows.old ≡ 64) }
+    ensures still_laid { LaidOver parts.entry (trace_of parts.entry.sizes.cycles columns.old) columns.new words.new }
     ensures rows_long { length rows.new ≡ 64 }
-    ensures place_is { PlaceIs (role_of role) (clause_of (node_at nodes.now) d) (trace_of sizes.cycles columns.old) result }
+    ensures place_is { PlaceIs (role_of role) (clause_at parts.entry.nodes.now parts.entry.clauses.now k) (trace_of parts.entry.sizes.cycles columns.old) result }
 {
+    let d = stored_at(parts.clauses, k);
     if d.role != role {
-        return PLACES;
+        return None;
     }
-    clause_place(d, sizes, nodes, reach, columns, words, rows)
+    let place = clause_place(d, parts, columns, words, rows);
+    if place < PLACES { Some(place) } else { None }
 }
 
 // The first clause with the role that fails.
 pub fn first_failing(
     role: usize,
-    clauses: &[u8],
-    sizes: Sizes,
-    nodes: &[u8],
-    reach: &[usize],
+    parts: Parts,
     columns: &mut [u64],
     words: &mut [u64],
     rows: &mut [u64],
-) -> Failing
-    requires laid { Laid nodes.now sizes.nodes sizes.cycles reach.now (trace_of sizes.cycles columns.old) columns.old words.old }
-    requires known_role { (role ≤ last_role) × Sounds nodes.now sizes.nodes clauses.now sizes.clauses × (length rows.old ≡ 64) }
-    ensures still_laid { Laid nodes.now sizes.nodes sizes.cycles reach.now (trace_of sizes.cycles columns.old) columns.new words.new }
+) -> Option<Failing>
+    requires laid { LaidOver parts (trace_of parts.sizes.cycles columns.old) columns.old words.old }
+    requires known_role { (role ≤ last_role) × Sounds parts.nodes.now parts.sizes.nodes parts.clauses.now parts.sizes.clauses × (length rows.old ≡ 64) }
+    ensures still_laid { LaidOver parts.entry (trace_of parts.entry.sizes.cycles columns.old) columns.new words.new }
     ensures rows_long { length rows.new ≡ 64 }
-    ensures failing_is { FailingIs (role_of role) (clause_at nodes.now clauses.now) sizes.clauses (trace_of sizes.cycles columns.old) result }
+    ensures failing_is { FailingIs (role_of role) (clause_at parts.entry.nodes.now parts.entry.clauses.now) parts.entry.sizes.clauses (trace_of parts.entry.sizes.cycles columns.old) result }
 {
-    for k in 0..sizes.clauses {
-        let d = stored_at(clauses, k);
-        let place = role_place(role, d, sizes, nodes, reach, columns, words, rows);
-        if place < PLACES {
-            return Failing::At(k, place);
+    for k in 0..parts.sizes.clauses {
+        let found = role_place(role, k, parts, columns, words, rows);
+        if let Some(place) = found {
+            return Some(Failing { clause: k, place });
         }
     }
-    Failing::Nothing
+    None
 }
 
 // The advice that fails: a byte with bit k set if clause k is such.
 pub fn failing_advice(
-    clauses: &[u8],
-    sizes: Sizes,
-    nodes: &[u8],
-    reach: &[usize],
+    parts: Parts,
     columns: &mut [u64],
     words: &mut [u64],
     rows: &mut [u64],
 ) -> usize
-    requires laid { Laid nodes.now sizes.nodes sizes.cycles reach.now (trace_of sizes.cycles columns.old) columns.old words.old }
-    requires sounds { Sounds nodes.now sizes.nodes clauses.now sizes.clauses × (length rows.old ≡ 64) }
-    ensures still_laid { Laid nodes.now sizes.nodes sizes.cycles reach.now (trace_of sizes.cycles columns.old) columns.new words.new }
+    requires laid { LaidOver parts (trace_of parts.sizes.cycles columns.old) columns.old words.old }
+    requires sounds { Sounds parts.nodes.now parts.sizes.nodes parts.clauses.now parts.sizes.clauses × (length rows.old ≡ 64) }
+    ensures still_laid { LaidOver parts.entry (trace_of parts.entry.sizes.cycles columns.old) columns.new words.new }
     ensures rows_long { length rows.new ≡ 64 }
-    ensures value { result ≡ advice_of (in_order sizes.clauses (clause_at nodes.now clauses.now)) (trace_of sizes.cycles columns.old) }
+    ensures value { result ≡ advice_of (in_order parts.entry.sizes.clauses (clause_at parts.entry.nodes.now parts.entry.clauses.now)) (trace_of parts.entry.sizes.cycles columns.old) }
 {
     let mut advice = 0;
-    for number in 0..sizes.clauses {
-        let d = stored_at(clauses, number);
-        let found = role_place(ADVICE, d, sizes, nodes, reach, columns, words, rows);
-        if found < PLACES {
+    for number in 0..parts.sizes.clauses {
+        let found = role_place(ADVICE, number, parts, columns, words, rows);
+        if found.is_some() {
             advice |= 1usize << number;
         }
     }

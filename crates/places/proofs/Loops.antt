@@ -82,9 +82,12 @@ pub adds_ext : (n : ℕ) (before after : List ℕ) (p q : ℕ → ℕ → Bool) 
 adds_ext n before after p q f a = record { adds = λ b e l h. a.adds b e l h ∙ ap (λ (r : Bool). test_of before b e || r) (f b e l h) }
 
 -- ---- what a walk has found
-module _ (job : Job) (nodes : List ℕ) (σ : Trace) where
+module _ (job : Job) (σ : Trace) where
+  abbrev nodes : List ℕ
+  nodes = job.nodes.now
+
   pub walked_ext : {best r : ℕ} {rows rows' : List ℕ} {over over' : (Placement → Bool) → Bool} → ((q : Placement → Bool) → over q ≡ over' q)
-      → Walked job nodes σ best r rows rows' over → Walked job nodes σ best r rows rows' over'
+      → Walked job σ best r rows rows' over → Walked job σ best r rows rows' over'
   walked_ext {rows = rows} {rows'} {over} {over'} f w =
       record {
         places = λ e. least_ext (λ y h. f (missed_on nodes σ job.n job.task y)) (w.places e);
@@ -93,7 +96,7 @@ module _ (job : Job) (nodes : List ℕ) (σ : Trace) where
       }
 
   -- nothing yet
-  pub walked_none : (best low : ℕ) (rows : List ℕ) (over : ℕ → (Placement → Bool) → Bool) → Walked job nodes σ best best rows rows (λ q. some_from low low (λ t. over t q))
+  pub walked_none : (best low : ℕ) (rows : List ℕ) (over : ℕ → (Placement → Bool) → Bool) → Walked job σ best best rows rows (λ q. some_from low low (λ t. over t q))
   walked_none best low rows over =
       record {
         places = λ e. least_stay (λ y h. none (missed_on nodes σ job.n job.task y));
@@ -109,8 +112,8 @@ module _ (job : Job) (nodes : List ℕ) (σ : Trace) where
 
   -- one cycle more
   pub walked_turn : (low t : ℕ) {best r s : ℕ} {rows rows' rows'' : List ℕ} (over : ℕ → (Placement → Bool) → Bool) → low ≤ t
-      → Walked job nodes σ best r rows rows' (λ q. some_from low t (λ t. over t q)) → Walked job nodes σ r s rows' rows'' (over t)
-      → Walked job nodes σ best s rows rows'' (λ q. some_from low (t + 1) (λ t. over t q))
+      → Walked job σ best r rows rows' (λ q. some_from low t (λ t. over t q)) → Walked job σ r s rows' rows'' (over t)
+      → Walked job σ best s rows rows'' (λ q. some_from low (t + 1) (λ t. over t q))
   walked_turn low t {best} {r} {s} {rows} {rows'} {rows''} over h w v =
       record {
         places = λ e. least_ext (λ y l. turn (missed_on nodes σ job.n job.task y)) (least_then (w.places e) (v.places e));

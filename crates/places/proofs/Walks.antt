@@ -18,6 +18,8 @@ use Rattle.stored.specs.Node.{node_at}
 use Rattle.tables.specs.Table.{standing, Table, Tables}
 use Rattle.tables.specs.Ready.{with_names}
 use Rattle.places.specs.declared.task.Task.{Task}
+use Rattle.places.specs.declared.walk.Aim.{Aim}
+use Rattle.places.specs.declared.walk.Aim.TheVariants.{Place, Answers}
 use Rattle.places.specs.declared.walk.Job.{Job}
 use Rattle.places.specs.declared.walk.Spot.{Spot}
 use Rattle.intervals.specs.Gather.{gathered, Adds, Ends}
@@ -34,7 +36,13 @@ pub record Placed (nodes : List ℕ) (count n : ℕ) (reach : List ℕ) (σ : Tr
   pub laid : Laid nodes count n reach σ columns words
   pub tables : (i : ℕ) → i < count → Table (node_at nodes) σ (marks (standing cycles)) n words i
 
-module _ {spot : Spot} {job : Job} {best : ℕ} {nodes reach columns words : List ℕ} (w : Walkable spot job best nodes reach columns words) where
+module _ {spot : Spot} {job : Job} {best : ℕ} {columns words : List ℕ} (w : Walkable spot job best columns words) where
+  abbrev nodes : List ℕ
+  nodes = job.nodes.now
+
+  abbrev reach : List ℕ
+  reach = job.reach.now
+
   pub lay_placed : {columns' words' : List ℕ} → columns' ≡ with_names columns spot.cycles → Tables (node_at nodes) job.count job.n columns' words'
       → length words' ≡ length words → Placed nodes job.count job.n reach (trace_of job.n columns) spot.cycles columns' words'
   lay_placed e t same =
@@ -52,7 +60,7 @@ module _ {spot : Spot} {job : Job} {best : ℕ} {nodes reach columns words : Lis
   root_rows p f = let long = p.laid.ready.given.words_long in let below = f.below in omega arith
 
   -- the same spot after the tables were laid for others
-  pub walkable_again : {columns' words' : List ℕ} {σ : Trace} → Laid nodes job.count job.n reach σ columns' words' → Walkable spot job best nodes reach columns' words'
+  pub walkable_again : {columns' words' : List ℕ} {σ : Trace} → Laid nodes job.count job.n reach σ columns' words' → Walkable spot job best columns' words'
   walkable_again l =
       record {
         laid = record { ready = l.ready; tables = l.tables; told = refl };
@@ -65,10 +73,10 @@ module _ {spot : Spot} {job : Job} {best : ℕ} {nodes reach columns words : Lis
 
   -- the next name on cycle t
   pub walkable_next : {columns' words' : List ℕ} {σ : Trace} (least t : ℕ) (next : Spot) → next ≡ with_next spot t → Laid nodes job.count job.n reach σ columns' words'
-      → least ≤ best → 0 < spot.left → t < job.n → Walkable next job least nodes reach columns' words'
+      → least ≤ best → 0 < spot.left → t < job.n → Walkable next job least columns' words'
   unfolding with_next standing
   walkable_next {columns'} {words'} least t next e l less some h =
-      subst (λ (z : Spot). Walkable z job least nodes reach columns' words') (sym e)
+      subst (λ (z : Spot). Walkable z job least columns' words') (sym e)
       (record {
         laid = record { ready = l.ready; tables = l.tables; told = refl };
         formulas = w.formulas;
@@ -90,13 +98,13 @@ module _ {spot : Spot} {job : Job} {best : ℕ} {nodes reach columns words : Lis
 
   -- the names of the answer over the same placement
   abbrev pub within : Job
-  within = record { task = job.task; count = job.count; n = job.n; answering = true; names = job.task.replies }
+  within = record { task = job.task; nodes = job.nodes; reach = job.reach; count = job.count; n = job.n; aim = Answers; names = job.task.replies }
 
   abbrev pub afresh : Spot
   afresh = record { left = 3; cycles = spot.cycles }
 
   pub walkable_within : {columns' words' : List ℕ} → Placed nodes job.count job.n reach (trace_of job.n columns) spot.cycles columns' words'
-      → Walkable afresh within best nodes reach columns' words'
+      → Walkable afresh within best columns' words'
   walkable_within p =
       record {
         laid = record { ready = p.laid.ready; tables = p.laid.tables; told = refl };
@@ -133,7 +141,7 @@ module _ {spot : Spot} {job : Job} {best : ℕ} {nodes reach columns words : Lis
 
       -- with the answers of a walk over their names
       pub find_open : {rows rows' : List ℕ} {r x : ℕ} → rows ≡ replicate 64 0
-          → Walked within nodes (trace_of job.n columns') best x rows rows' (over_last 3 (bit job.task.replies) job.n (standing spot.cycles))
+          → Walked within (trace_of job.n columns') best x rows rows' (over_last 3 (bit job.task.replies) job.n (standing spot.cycles))
           → Found rows' r → Missed r
       find_open {rows} {rows'} {r} z a l =
           place_least (standing spot.cycles) few_cycles p.tables job.task w.formulas best first third a₁ a₃ rows' r
@@ -159,56 +167,64 @@ module _ {nodes reach columns words : List ℕ} {count n : ℕ} {σ : Trace} (l 
       → IsLeast best (λ y. missed_on nodes σ n task y ν) r
   refound {best} {r} task ν a = subst (λ (τ : Trace). IsLeast best (λ y. missed_on nodes τ n task y ν) r) l.told a
 
-  pub rewalked : (job : Job) {best r : ℕ} {rows rows' : List ℕ} (over : (Placement → Bool) → Bool) → Walked job nodes (trace_of n columns) best r rows rows' over
-      → Walked job nodes σ best r rows rows' over
-  rewalked job {best} {r} {rows} {rows'} over a = subst (λ (τ : Trace). Walked job nodes τ best r rows rows' over) l.told a
+  pub rewalked : (job : Job) {best r : ℕ} {rows rows' : List ℕ} (over : (Placement → Bool) → Bool) → Walked job (trace_of n columns) best r rows rows' over
+      → Walked job σ best r rows rows' over
+  rewalked job {best} {r} {rows} {rows'} over a = subst (λ (τ : Trace). Walked job τ best r rows rows' over) l.told a
+
+apart : Place ≡ Answers → ⊥
+apart e = cc
 
 -- ---- what a walk leaves at its ends
 -- a test of every placement with the next name on cycle t
 abbrev pub next_over : Job → Spot → ℕ → (Placement → Bool) → Bool
 next_over job spot t q = over_last (spot.left - 1) (bit job.names) job.n (standing (set spot.cycles (3 - spot.left) t)) q
 
-module _ (job : Job) (nodes : List ℕ) (σ : Trace) (spot : Spot) where
+module _ (job : Job) (σ : Trace) (spot : Spot) where
   abbrev Over : (Placement → Bool) → Bool
   Over = over_last spot.left (bit job.names) job.n (standing spot.cycles)
 
-  pub walked_unneeded : {best : ℕ} {rows : List ℕ} → Unneeded spot job best nodes σ → Walked job nodes σ best best rows rows Over
+  pub walked_unneeded : {best : ℕ} {rows : List ℕ} → Unneeded spot job best σ → Walked job σ best best rows rows Over
   walked_unneeded u =
-      record { places = λ e. least_stay u.none; answers = λ e. absurd (false≢true (sym u.looking ∙ e)); most = omega arith }
+      record { places = λ e. least_stay u.none; answers = λ e. absurd (apart (sym u.looking ∙ e)); most = omega arith }
 
   last : (q : Placement → Bool) → spot.left ≡ 0 → q (standing spot.cycles) ≡ Over q
   unfolding over_last
   last q e = rw e refl
 
-  pub walked_answer : {best : ℕ} {rows rows' : List ℕ} → spot.left ≡ 0 → job.answering ≡ true
-      → Adds job.n rows rows' (λ b e. reply_on nodes σ job.task b e (standing spot.cycles)) → Walked job nodes σ best best rows rows' Over
+  pub walked_answer : {best : ℕ} {rows rows' : List ℕ} → spot.left ≡ 0 → job.aim ≡ Answers
+      → Adds job.n rows rows' (λ b e. reply_on job.nodes.now σ job.task b e (standing spot.cycles)) → Walked job σ best best rows rows' Over
   walked_answer e is a =
-      walked_ext job nodes σ {over = λ q. q (standing spot.cycles)} (λ q. last q e)
-      (record { places = λ not. absurd (false≢true (sym not ∙ is)); answers = λ _. a; most = omega arith })
+      walked_ext job σ {over = λ q. q (standing spot.cycles)} (λ q. last q e)
+      (record { places = λ e. absurd (apart (sym e ∙ is)); answers = λ _. a; most = omega arith })
 
-  pub walked_find : {best r : ℕ} {rows rows' : List ℕ} → spot.left ≡ 0 → job.answering ≡ false
-      → IsLeast best (λ y. missed_on nodes σ job.n job.task y (standing spot.cycles)) r → Walked job nodes σ best r rows rows' Over
-  walked_find e not l =
-      walked_ext job nodes σ {over = λ q. q (standing spot.cycles)} (λ q. last q e)
-      (record { places = λ _. l; answers = λ is. absurd (false≢true (sym not ∙ is)); most = l.most })
+  pub walked_find : {best r : ℕ} {rows rows' : List ℕ} → spot.left ≡ 0 → job.aim ≡ Place
+      → IsLeast best (λ y. missed_on job.nodes.now σ job.n job.task y (standing spot.cycles)) r → Walked job σ best r rows rows' Over
+  walked_find e is l =
+      walked_ext job σ {over = λ q. q (standing spot.cycles)} (λ q. last q e)
+      (record { places = λ _. l; answers = λ e. absurd (apart (sym is ∙ e)); most = l.most })
 
   -- the walk of the next spot is one cycle of it
   pub walked_next : {best r : ℕ} {rows rows' : List ℕ} {next : Spot} (t : ℕ) → next ≡ with_next spot t
-      → Walked job nodes σ best r rows rows' (over_last next.left (bit job.names) job.n (standing next.cycles)) → Walked job nodes σ best r rows rows' (next_over job spot t)
+      → Walked job σ best r rows rows' (over_last next.left (bit job.names) job.n (standing next.cycles)) → Walked job σ best r rows rows' (next_over job spot t)
   unfolding with_next
   walked_next {best} {r} {rows} {rows'} t e w =
-      subst (λ (z : Spot). Walked job nodes σ best r rows rows' (over_last z.left (bit job.names) job.n (standing z.cycles))) e w
+      subst (λ (z : Spot). Walked job σ best r rows rows' (over_last z.left (bit job.names) job.n (standing z.cycles))) e w
 
   pub walked_level : {best r low last t : ℕ} {rows rows' : List ℕ} → length spot.cycles ≡ 3 → 0 < spot.left → spot.left ≤ 3 → 0 < job.n
       → low ≡ low_of (bit job.names (3 - spot.left)) (get_or spot.cycles (3 - spot.left) 0)
       → last ≡ last_of (bit job.names (3 - spot.left)) job.n (get_or spot.cycles (3 - spot.left) 0) → t ≡ suc last
-      → Walked job nodes σ best r rows rows' (λ q. some_from low t (λ i. next_over job spot i q)) → Walked job nodes σ best r rows rows' Over
+      → Walked job σ best r rows rows' (λ q. some_from low t (λ i. next_over job spot i q)) → Walked job σ best r rows rows' Over
   walked_level {low = low} {last} long some three h l k e w =
-      walked_ext job nodes σ (λ q. ap (λ (z : ℕ). some_from low z (λ i. next_over job spot i q)) e ∙ level spot.cycles spot.left job.names job.n low last q long some three h l k) w
+      walked_ext job σ (λ q. ap (λ (z : ℕ). some_from low z (λ i. next_over job spot i q)) e ∙ level spot.cycles spot.left job.names job.n low last q long some three h l k) w
 
 -- ---- how many names are left falls
-pub places_above : (left m : ℕ) (answering : Bool) → answering ≡ false → left + cond answering 0 9 ≡ m → 8 < m
-places_above left m answering e f = let g : left + 9 ≡ m = ap (λ (b : Bool). left + cond b 0 9) (sym e) ∙ f in omega arith
+-- a walk for places lies above one for answers
+abbrev pub above : Aim → ℕ
+above Place = 9
+above Answers = 0
+
+pub places_above : (left m : ℕ) (aim : Aim) → aim ≡ Place → left + above aim ≡ m → 8 < m
+places_above left m aim e f = let g : left + 9 ≡ m = ap (λ (a : Aim). left + above a) (sym e) ∙ f in omega arith
 
 pub next_below : (spot next : Spot) (t x m : ℕ) → next ≡ with_next spot t → (spot.left ≡ 0 → ⊥) → spot.left + x ≡ m → next.left + x < m
 unfolding with_next

@@ -8,6 +8,7 @@ use Rattle.stored.specs.Clause.{part_of}
 use Rattle.tables.specs.Table.{standing, Inside, Tables}
 use Rattle.tables.specs.Ready.{Ready}
 use Rattle.places.specs.declared.task.Task.{Task}
+use Rattle.places.specs.declared.walk.Aim.TheVariants.{Place, Answers}
 use Rattle.places.specs.declared.walk.Job.{Job}
 use Rattle.places.specs.declared.walk.Spot.{Spot}
 use Rattle.intervals.specs.Gather.{Adds}
@@ -21,6 +22,10 @@ pub record Laid (nodes : List ℕ) (count n : ℕ) (reach : List ℕ) (σ : Trac
   pub tables : Tables (node_at nodes) count n columns words
   pub told : trace_of n columns ≡ σ
 
+-- the same, for a walk's nodes
+abbrev pub LaidFor : Job → Trace → List ℕ → List ℕ → Type 0
+LaidFor job = Laid job.nodes.now job.count job.n job.reach.now
+
 -- node i is one of the formulas
 pub record IsFormula (nodes : List ℕ) (count i : ℕ) : Type 0 where
   pub below : i < count
@@ -33,9 +38,9 @@ pub record Formulas (nodes : List ℕ) (count : ℕ) (t : Task) : Type 0 where
   pub reply : IsFormula nodes count t.reply
 
 -- what a walk is given: right tables, formulas, every name on a cycle of the trace, and a place to look before
-pub record Walkable (spot : Spot) (job : Job) (best : ℕ) (nodes reach columns words : List ℕ) : Type 0 where
-  pub laid : Laid nodes job.count job.n reach (trace_of job.n columns) columns words
-  pub formulas : Formulas nodes job.count job.task
+pub record Walkable (spot : Spot) (job : Job) (best : ℕ) (columns words : List ℕ) : Type 0 where
+  pub laid : LaidFor job (trace_of job.n columns) columns words
+  pub formulas : Formulas job.nodes.now job.count job.task
   pub three : spot.left ≤ 3
   pub long : length spot.cycles ≡ 3
   pub inside : Inside job.n spot.cycles
@@ -59,15 +64,15 @@ unfoldable pub missed_on : List ℕ → Trace → ℕ → Task → ℕ → Place
 missed_on nodes σ n t y ν = numbered n (missed_task (node_at nodes) t σ (n - 1) ν) y
 
 -- no completion of the spot has an unanswered place before the best
-pub record Unneeded (spot : Spot) (job : Job) (best : ℕ) (nodes : List ℕ) (σ : Trace) : Type 0 where
-  pub looking : job.answering ≡ false
-  pub none : (y : ℕ) → y < best → over_last spot.left (bit job.names) job.n (standing spot.cycles) (missed_on nodes σ job.n job.task y) ≡ false
+pub record Unneeded (spot : Spot) (job : Job) (best : ℕ) (σ : Trace) : Type 0 where
+  pub looking : job.aim ≡ Place
+  pub none : (y : ℕ) → y < best → over_last spot.left (bit job.names) job.n (standing spot.cycles) (missed_on job.nodes.now σ job.n job.task y) ≡ false
 
 -- What a walk leaves, where `over` asks a test of every placement that it came to: the least unanswered place before the best, or rows
 -- that have gained the answers.
-pub record Walked (job : Job) (nodes : List ℕ) (σ : Trace) (best r : ℕ) (rows rows' : List ℕ) (over : (Placement → Bool) → Bool) : Type 0 where
-  pub places : job.answering ≡ false → IsLeast best (λ y. over (missed_on nodes σ job.n job.task y)) r
-  pub answers : job.answering ≡ true → Adds job.n rows rows' (λ b e. over (reply_on nodes σ job.task b e))
+pub record Walked (job : Job) (σ : Trace) (best r : ℕ) (rows rows' : List ℕ) (over : (Placement → Bool) → Bool) : Type 0 where
+  pub places : job.aim ≡ Place → IsLeast best (λ y. over (missed_on job.nodes.now σ job.n job.task y)) r
+  pub answers : job.aim ≡ Answers → Adds job.n rows rows' (λ b e. over (reply_on job.nodes.now σ job.task b e))
   pub most : r ≤ best
 
 -- the cycles that a walk goes through for one name: all of the trace if it moves, else the one on which it stands

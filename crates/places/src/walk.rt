@@ -5,7 +5,7 @@ ghost use Rattle.semantics.specs.Proposition.{bit};
 ghost use Rattle.traces.specs.Columns.{trace_of};
 ghost use Rattle.tables.specs.Table.{standing};
 ghost use Rattle.intervals.specs.Gather.{Adds};
-ghost use Rattle.places.specs.Laid.{Laid, Walkable, Unneeded, Walked, with_next, over_last, reply_on, missed_on, low_of, last_of};
+ghost use Rattle.places.specs.Laid.{LaidFor, Walkable, Unneeded, Walked, with_next, over_last, reply_on, missed_on, low_of, last_of};
 ghost use Rattle.intervals.specs.Places.{IsLeast};
 ghost use Rattle.intervals.specs.Rows.{type_of};
 ghost use Rattle.intervals.specs.Search.{premised};
@@ -24,14 +24,23 @@ pub struct Spot {
     pub cycles: [usize; 3],
 }
 
-// What never changes during a walk: the clause's task, how many nodes and cycles there are, whether the walk gathers answers or
-// looks for places, and the names that it moves.
+// What a walk does at each placement: it looks for the first unanswered place, or gathers the answers.
 #[derive(Clone, Copy)]
-pub struct Job {
+pub enum Aim {
+    Place,
+    Answers,
+}
+
+// What never changes during a walk: the clause's task, the sheet's nodes and which names they reach, how many nodes and cycles there
+// are, the aim, and the names that are moved.
+#[derive(Clone, Copy)]
+pub struct Job<'a> {
     pub task: Task,
+    pub nodes: &'a [u8],
+    pub reach: &'a [usize],
     pub count: usize,
     pub n: usize,
-    pub answering: bool,
+    pub aim: Aim,
     pub names: usize,
 }
 
@@ -61,20 +70,15 @@ fn cycles_of(moves: bool, n: usize, at: usize) -> (usize, usize)
 }
 
 // Whether no completion of the spot has an unanswered place before the best: the walk then passes over them all.
-fn hopeless(
-    spot: Spot,
-    job: Job,
-    best: usize,
-    nodes: &[u8],
-    reach: &[usize],
-    columns: &mut [u64],
-    words: &mut [u64],
-) -> bool
-    requires { Walkable spot job best nodes.now reach.now columns.old words.old }
-    ensures laid { Laid nodes.now job.count job.n reach.now (trace_of job.n columns.old) columns.new words.new }
-    ensures unneeded { result ≡ true → Unneeded spot job best nodes.now (trace_of job.n columns.old) }
+fn hopeless(spot: Spot, job: Job, best: usize, columns: &mut [u64], words: &mut [u64]) -> bool
+    requires { Walkable spot job best columns.old words.old }
+    ensures laid { LaidFor job.entry (trace_of job.entry.n columns.old) columns.new words.new }
+    ensures unneeded { result ≡ true → Unneeded spot job.entry best (trace_of job.entry.n columns.old) }
 {
-    !job.answering & (best == 0)
+    match job.aim {
+        Aim::Place => best == 0,
+        Aim::Answers => false,
+    }
 }
 
 // Every type but pref starts from a premise.
@@ -96,22 +100,20 @@ fn answer(
     spot: Spot,
     job: Job,
     best: usize,
-    nodes: &[u8],
-    reach: &[usize],
     columns: &mut [u64],
     words: &mut [u64],
     rows: &mut [u64],
 )
-    requires walkable { Walkable spot job best nodes.now reach.now columns.old words.old }
+    requires walkable { Walkable spot job best columns.old words.old }
     requires rows_long { length rows.old ≡ 64 }
-    ensures laid { Laid nodes.now job.count job.n reach.now (trace_of job.n columns.old) columns.new words.new }
+    ensures laid { LaidFor job.entry (trace_of job.entry.n columns.old) columns.new words.new }
     ensures rows_kept { length rows.new ≡ 64 }
-    ensures adds { Adds job.n rows.old rows.new (λ b e. reply_on nodes.now (trace_of job.n columns.old) job.task b e (standing spot.cycles)) }
+    ensures adds { Adds job.entry.n rows.old rows.new (λ b e. reply_on job.entry.nodes.now (trace_of job.entry.n columns.old) job.entry.task b e (standing spot.cycles)) }
 {
     let task = job.task;
     let n = job.n;
     let cycles = spot.cycles;
-    lay(nodes, job.count, n, reach, cycles, columns, words);
+    lay(job.nodes, job.count, n, job.reach, cycles, columns, words);
     let _ = add(words, task.reply, task.replies, false, cycles, n, rows);
 }
 
@@ -122,24 +124,21 @@ fn find(
     spot: Spot,
     job: Job,
     best: usize,
-    nodes: &[u8],
-    reach: &[usize],
     columns: &mut [u64],
     words: &mut [u64],
     rows: &mut [u64],
 ) -> usize
-    requires walkable { Walkable spot job best nodes.now reach.now columns.old words.old }
+    requires walkable { Walkable spot job best columns.old words.old }
     requires rows_long { length rows.old ≡ 64 }
-    ensures laid { Laid nodes.now job.count job.n reach.now (trace_of job.n columns.old) columns.new words.new }
+    ensures laid { LaidFor job.entry (trace_of job.entry.n columns.old) columns.new words.new }
     ensures rows_kept { length rows.new ≡ 64 }
-    ensures least { IsLeast best (λ y. missed_on nodes.now (trace_of job.n columns.old) job.n job.task y (standing spot.cycles)) result }
+    ensures least { IsLeast best (λ y. missed_on job.entry.nodes.now (trace_of job.entry.n columns.old) job.entry.n job.entry.task y (standing spot.cycles)) result }
 {
     let task = job.task;
-    let count = job.count;
     let n = job.n;
     let cycles = spot.cycles;
     let clause_type = task.clause_type;
-    lay(nodes, count, n, reach, cycles, columns, words);
+    lay(job.nodes, job.count, n, job.reach, cycles, columns, words);
     let mut first = [0u64; 64];
     let some = add(
         words,
@@ -161,22 +160,11 @@ fn find(
         return best;
     }
     let within = Job {
-        task,
-        count,
-        n,
-        answering: true,
+        aim: Aim::Answers,
         names: task.replies,
+        ..job
     };
-    let _ = walk(
-        Spot { left: 3, cycles },
-        within,
-        best,
-        nodes,
-        reach,
-        columns,
-        words,
-        rows,
-    );
+    let _ = walk(Spot { left: 3, cycles }, within, best, columns, words, rows);
     search(clause_type, &first, &third, rows, n, best)
 }
 
@@ -186,28 +174,28 @@ pub fn walk(
     spot: Spot,
     job: Job,
     best: usize,
-    nodes: &[u8],
-    reach: &[usize],
     columns: &mut [u64],
     words: &mut [u64],
     rows: &mut [u64],
 ) -> usize
-    requires walkable { Walkable spot job best nodes.now reach.now columns.old words.old }
+    requires walkable { Walkable spot job best columns.old words.old }
     requires rows_long { length rows.old ≡ 64 }
-    ensures laid { Laid nodes.now job.count job.n reach.now (trace_of job.n columns.old) columns.new words.new }
+    ensures laid { LaidFor job.entry (trace_of job.entry.n columns.old) columns.new words.new }
     ensures rows_kept { length rows.new ≡ 64 }
-    ensures walked { Walked job nodes.now (trace_of job.n columns.old) best result rows.old rows.new (over_last spot.left (bit job.names) job.n (standing spot.cycles)) }
+    ensures walked { Walked job.entry (trace_of job.entry.n columns.old) best result rows.old rows.new (over_last spot.left (bit job.entry.names) job.entry.n (standing spot.cycles)) }
 {
-    if hopeless(spot, job, best, nodes, reach, columns, words) {
+    if hopeless(spot, job, best, columns, words) {
         return best;
     }
     let left = spot.left;
     if left == 0 {
-        if job.answering {
-            answer(spot, job, best, nodes, reach, columns, words, rows);
-            return best;
-        }
-        return find(spot, job, best, nodes, reach, columns, words, rows);
+        return match job.aim {
+            Aim::Place => find(spot, job, best, columns, words, rows),
+            Aim::Answers => {
+                answer(spot, job, best, columns, words, rows);
+                best
+            }
+        };
     }
     let u = 3 - left;
     let cycles = spot.cycles;
@@ -215,16 +203,7 @@ pub fn walk(
     let (first, end) = cycles_of(moves, job.n, cycles[u]);
     let mut least = best;
     for t in first..end {
-        least = walk(
-            onto(spot, t),
-            job,
-            least,
-            nodes,
-            reach,
-            columns,
-            words,
-            rows,
-        );
+        least = walk(onto(spot, t), job, least, columns, words, rows);
     }
     least
 }

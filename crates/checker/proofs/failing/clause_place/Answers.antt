@@ -10,7 +10,7 @@ task_of-task-requires c = omega (arith, c.requires.sound.0.type_least, c.require
 pub walk-requires : goal.walk-requires
 walk-requires c =
     let p = c.requires in
-    record { walkable = clause_walkable p.laid c.args.d _ c.task_of-task.ensures p.sound.0; rows_long = p.sound.1 }
+    record { walkable = clause_walkable c.args.parts.nodes c.args.parts.reach p.laid c.args.d _ c.task_of-task.ensures p.sound.0; rows_long = p.sound.1 }
 
 pub returns : goal.returns
 returns c =

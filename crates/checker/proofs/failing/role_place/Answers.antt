@@ -1,41 +1,47 @@
 -- `checker::failing::role_place` meets its contract.
-use native.Mathlib.Omega.{arith}
+use Rattle.std.proofs.Common.{ap, subst, ◌∙◌, sym, length}
+use Rattle.semantics.specs.Clause.{breaks}
+use Rattle.stored.specs.declared.StoredClause.{StoredClause}
 use Rattle.stored.specs.Node.{node_at}
+use Rattle.stored.specs.Clause.{stored_at, clause_of}
 use Rattle.traces.specs.Columns.{trace_of}
+use Rattle.intervals.specs.Places.{places, numbered, IsLeast}
+use Rattle.checker.specs.Clauses.{clause_at}
 use Rattle.checker.proofs.Clauses.{short_trace}
 use Rattle.checker.proofs.Verdicts.{other_role, no_place, some_place}
 use Rattle.checker.proofs.failing.role_place.Goals as goal
 
-pub returns-then-d-role : goal.returns-then-d-role
-returns-then-d-role c =
-    let q = c.requires in
-    let a = c.args in record {
-      still_laid = q.laid;
-      rows_long = q.known_role.2;
-      place_is = record {
-        none = λ h. other_role (node_at a.nodes.now) a.d a.role q.known_role.0 q.known_role.1.role_most (trace_of a.sizes.cycles a.columns.now) c.if-d-role.true;
-        some = λ h. absurd (omega arith);
-        least = λ h. absurd (omega arith);
-      };
-    }
-
-pub clause_place-requires : goal.clause_place-requires
-clause_place-requires c =
-    let q = c.requires in
-    record { laid = q.laid; sound = (q.known_role.1, q.known_role.2) }
-
-pub returns : goal.returns
-returns c =
-    let q = c.requires in
+pub returns-then-d-role-clause-place_is : goal.returns-then-d-role-clause-place_is
+unfolding clause_at
+returns-then-d-role-clause-place_is c =
     let a = c.args in
-    let r = c.clause_place in
-    let σ = trace_of a.sizes.cycles a.columns.now in
-    let short = short_trace q.laid in record {
-      still_laid = r.ensures.still_laid;
-      rows_long = r.ensures.rows_long;
-      place_is = record {
-        none = no_place (node_at a.nodes.now) a.d a.role q.known_role.0 q.known_role.1.role_most σ short r.result r.ensures.least;
-        some = some_place (node_at a.nodes.now) a.d a.role q.known_role.0 q.known_role.1.role_most σ short r.result r.ensures.least c.if-d-role.false;
-        least = λ h. r.ensures.least;
-      };
-    }
+    let q = c.requires.known_role in
+    let role = ap (λ (d : StoredClause). d.role) c.stored_at-d.ensures in
+    other_role (node_at a.parts.nodes.now) (stored_at a.parts.clauses.now a.k) a.role q.0 (q.2.sound a.k q.1).role_most (trace_of a.parts.sizes.cycles a.columns.now)
+    (λ e. c.if-d-role.true (role ∙ e))
+
+pub returns-then-place-lt-PLACES-clause-place_is : goal.returns-then-place-lt-PLACES-clause-place_is
+unfolding clause_at
+returns-then-place-lt-PLACES-clause-place_is c =
+    let a = c.args in
+    let q = c.requires.known_role in
+    let x = node_at a.parts.nodes.now in
+    let d = stored_at a.parts.clauses.now a.k in
+    let σ = trace_of a.parts.sizes.cycles a.columns.now in
+    let r = c.clause_place-place in
+    let role = ap (λ (d : StoredClause). d.role) c.stored_at-d.ensures in
+    let least = subst (λ (d : StoredClause). IsLeast places (numbered (length σ) (breaks (clause_of x d) σ)) r.result) c.stored_at-d.ensures r.ensures.least in
+    let small = c.if-place-lt-PLACES.true in
+    record { fails = some_place x d a.role q.0 (q.2.sound a.k q.1).role_most σ (short_trace c.requires.laid) r.result least (sym role ∙ c.if-d-role.false) small; least = least; found = small }
+
+pub returns-else-place-lt-PLACES-clause-place_is : goal.returns-else-place-lt-PLACES-clause-place_is
+unfolding clause_at
+returns-else-place-lt-PLACES-clause-place_is c =
+    let a = c.args in
+    let q = c.requires.known_role in
+    let x = node_at a.parts.nodes.now in
+    let d = stored_at a.parts.clauses.now a.k in
+    let σ = trace_of a.parts.sizes.cycles a.columns.now in
+    let r = c.clause_place-place in
+    let least = subst (λ (d : StoredClause). IsLeast places (numbered (length σ) (breaks (clause_of x d) σ)) r.result) c.stored_at-d.ensures r.ensures.least in
+    no_place x d a.role q.0 (q.2.sound a.k q.1).role_most σ (short_trace c.requires.laid) r.result least c.if-place-lt-PLACES.false

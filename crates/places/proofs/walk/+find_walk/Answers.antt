@@ -70,32 +70,28 @@ pub walk-returns-then-hopeless : goal.walk-returns-then-hopeless
 walk-returns-then-hopeless t c =
     let a = c.args in
     let h = c.hopeless.ensures in
-    record { laid = h.laid; rows_kept = c.requires.rows_long; walked = walked_unneeded a.job a.nodes.now _ a.spot (h.unneeded c.if-hopeless.true) }
+    record { laid = h.laid; rows_kept = c.requires.rows_long; walked = walked_unneeded a.job _ a.spot (h.unneeded c.if-hopeless.true) }
 
 pub walk-answer-requires : goal.walk-answer-requires
 walk-answer-requires t c = record { walkable = walkable_again c.requires.walkable c.hopeless.ensures.laid; rows_long = c.requires.rows_long }
 
-pub walk-returns-then-job : goal.walk-returns-then-job
-walk-returns-then-job t c =
+pub walk-returns-in-Answers-clause-walked : goal.walk-returns-in-Answers-clause-walked
+walk-returns-in-Answers-clause-walked t c =
     let a = c.args in
-    let h = c.hopeless.ensures.laid in
-    let r = c.answer.ensures in
-    let added = readded h a.job.task (standing a.spot.cycles) r.adds in
-    record { laid = relaid h r.laid; rows_kept = r.rows_kept; walked = walked_answer a.job a.nodes.now _ a.spot c.if-left-eq0.true c.if-job.true added }
+    let added = readded c.hopeless.ensures.laid a.job.task (standing a.spot.cycles) c.answer.ensures.adds in
+    walked_answer a.job _ a.spot c.if-left-eq0.true c.in-Answers.is added
 
 pub walk-find-requires : goal.walk-find-requires
 walk-find-requires t c =
     let p = c.requires in
     let a = c.args in
-    (places_above a.spot.left t a.job.answering c.if-job.false c.decreases, (walkable_again p.walkable c.hopeless.ensures.laid, p.rows_long))
+    (places_above a.spot.left t a.job.aim c.in-Place.is c.decreases, (walkable_again p.walkable c.hopeless.ensures.laid, p.rows_long))
 
-pub walk-returns-then-left-eq0 : goal.walk-returns-then-left-eq0
-walk-returns-then-left-eq0 t c =
+pub walk-returns-in-Place-clause-walked : goal.walk-returns-in-Place-clause-walked
+walk-returns-in-Place-clause-walked t c =
     let a = c.args in
-    let h = c.hopeless.ensures.laid in
-    let r = c.find.ensures in
-    let found = refound h a.job.task (standing a.spot.cycles) r.least in
-    record { laid = relaid h r.laid; rows_kept = r.rows_kept; walked = walked_find a.job a.nodes.now _ a.spot c.if-left-eq0.true c.if-job.false found }
+    let found = refound c.hopeless.ensures.laid a.job.task (standing a.spot.cycles) c.find.ensures.least in
+    walked_find a.job _ a.spot c.if-left-eq0.true c.in-Place.is found
 
 pub walk-cycles_of-first-requires : goal.walk-cycles_of-first-requires
 unfolding standing
@@ -121,7 +117,7 @@ walk-loop-t-init t c =
       c.requires.rows_long,
       omega arith,
       omega (arith, range.0, low, end),
-      walked_none a.job a.nodes.now _ a.best _ a.rows.now _,
+      walked_none a.job _ a.best _ a.rows.now _,
     )
 
 pub walk-onto-requires : goal.walk-onto-requires
@@ -158,8 +154,8 @@ walk-loop-t-preserved t c =
       r.ensures.rows_kept,
       omega (arith, l.invariant.4),
       omega (arith, c.loop-t-test.true),
-      walked_turn a.job a.nodes.now _ _ l.t over l.invariant.4 l.invariant.6
-          (walked_next a.job a.nodes.now _ a.spot l.t c.onto.ensures (rewalked l.invariant.0 a.job _ r.ensures.walked)),
+      walked_turn a.job _ _ l.t over l.invariant.4 l.invariant.6
+          (walked_next a.job _ a.spot l.t c.onto.ensures (rewalked l.invariant.0 a.job _ r.ensures.walked)),
     )
 
 pub walk-returns : goal.walk-returns
@@ -179,7 +175,7 @@ walk-returns t c =
     let some = c.if-left-eq0.false in record {
       laid = relaid h l.invariant.0;
       rows_kept = l.invariant.3;
-      walked = walked_level a.job a.nodes.now _ a.spot w.long (omega (arith, some)) w.three (some_cycles w)
+      walked = walked_level a.job _ a.spot w.long (omega (arith, some)) w.three (some_cycles w)
           (low ∙ ap (λ (x : Bool). low_of x at) named) (ap (λ (x : Bool). last_of x a.job.n at) named) (omega (arith, l.invariant.5, end, c.loop-t-test.false))
           (rewalked h a.job _ l.invariant.6);
     }
