@@ -7,7 +7,7 @@ use native.Mathlib.Omega.{arith}
 use borrow.Author.Tests.{eqb-true, le-ltb}
 use lib.Dec.{eqb, ltb}
 use lib.ListN.{length, take, drop, replicate, length-take, length-replicate}
-use lib.Seq.{sets-eq, take_at, length-sets}
+use lib.Seq.{sets, sets-eq, take_at, length-sets}
 use Rattle.std.specs.Prelude.{Result, Ok, Err, IfOk}
 use Rattle.stored.specs.declared.refusal.Refusal.{Refusal}
 use Rattle.stored.specs.Refusal.{number_of, answer_number}
@@ -25,29 +25,32 @@ use Rattle.translator.specs.Translated.{FormulaOf, Translated}
 use Rattle.translator.proofs.Translating.{number_told}
 use Rattle.lines.specs.declared.output.Output.{Output}
 use Rattle.lines.specs.Lines.{refused_text}
-use Rattle.lines.specs.Output.{refused_output, output_of}
+use Rattle.lines.specs.Output.{bytes_for, length_for}
 use Rattle.printed.specs.Formula.{OutputOf}
 use Rattle.printed.specs.Sheet.{most_text, said_for, Answered, SheetOutput}
 use Rattle.lines.proofs.Texts.{refused_length}
 
--- the line of a refusal in bytes enough
-pub record LineIn (number : ℕ) (bytes : List ℕ) (r : Output least_output) : Type 0 where
-  pub inside : r.length ≤ length r.bytes
-  pub line : take r.length r.bytes ≡ refused_text number
-  pub later : drop r.length r.bytes ≡ drop r.length bytes
+-- what is written: bytes enough, and zero past the length where they were before
+pub record Fits (bytes out : List ℕ) (size : ℕ) : Type 0 where
+  pub inside : size ≤ length out
+  pub later : drop size out ≡ drop size bytes
 
-pub line_in : (bytes : List ℕ) (number : ℕ) → length bytes ≡ least_output → number < 1000 → LineIn number bytes (refused_output bytes number)
-unfolding refused_output
-line_in bytes number size small =
-    let few = refused_length number small in
-    let room : 0 + length (refused_text number) ≤ length bytes = omega arith in
-    record {
-      inside = simp length-sets (omega arith);
-      line =
-          ap (take (length (refused_text number))) (sets-eq (refused_text number) bytes 0 room)
-          ∙ take_at (refused_text number) _ (length (refused_text number)) refl;
-      later = drop_after bytes 0 (refused_text number) (length (refused_text number)) (omega arith);
-    }
+-- the line of a refusal in bytes enough
+module _ (bytes : List ℕ) (number : ℕ) (size : length bytes ≡ least_output) (small : number < 1000) where
+  room : 0 + length (refused_text number) ≤ length bytes
+  room = omega (arith, refused_length number small)
+
+  line_fits : Fits bytes (sets bytes 0 (refused_text number)) (length (refused_text number))
+  line_fits =
+      record {
+        inside = simp length-sets (omega (arith, room));
+        later = drop_after bytes 0 (refused_text number) (length (refused_text number)) (omega arith);
+      }
+
+  line_is : take (length (refused_text number)) (sets bytes 0 (refused_text number)) ≡ refused_text number
+  line_is =
+      ap (take (length (refused_text number))) (sets-eq (refused_text number) bytes 0 room)
+      ∙ take_at (refused_text number) _ (length (refused_text number)) refl
 
 pub blank_length : (x : List ℕ) → x ≡ replicate least_output 0 → length x ≡ least_output
 blank_length x blank = ap length blank ∙ length-replicate {A = ℕ} least_output 0
@@ -82,26 +85,28 @@ module _ (s x y : List ℕ) (blank : x ≡ replicate least_output 0) where
   pub formula_fits : (a : Result ℕ Refusal) → Translated s x y a → (length y ≡ least_output) × IfOk a (λ (size : ℕ). size ≤ least_output)
   formula_fits a t = (t.size ∙ blank_length x blank, formula_small a t)
 
-  pub formula_output : (a : Result ℕ Refusal) → Translated s x y a → OutputOf s (output_of y a)
-  unfolding output_of refused_output answer_number written_length
-  formula_output (Ok size) t =
+  pub formula_output : (a : Result ℕ Refusal) → Translated s x y a → (r : Output least_output) → r.bytes ≡ bytes_for y a → r.length ≡ length_for a → OutputOf s r
+  unfolding bytes_for length_for answer_number written_length
+  formula_output (Ok size) t r eb el =
       let none : translate_refusal s (length x) ≡ 0 = sym (number_told t) in
       record {
-        inside = omega (arith, formula_small (Ok size) t, t.size, blank_length x blank);
+        inside = rw (eb, el) (omega (arith, formula_small (Ok size) t, t.size, blank_length x blank));
         refused = λ h. absurd (h (sym same ∙ none));
-        formula = λ h. t.formula none;
-        later = t.later none ∙ ap (drop size) blank;
+        formula = λ h. rw (eb, el) (t.formula none);
+        later = rw (eb, el) (t.later none ∙ ap (drop size) blank);
       }
-  formula_output (Err e) t =
+  formula_output (Err e) t r eb el =
       let number = number_of e in
       let known : number ≡ sheet_refusal s = number_told t ∙ same in
       let some : sheet_refusal s ≡ 0 → ⊥ = λ h. not_empty s y (t.formula (same ∙ h)) in
-      let line = line_in y number (t.size ∙ blank_length x blank) (omega (arith, number_most e)) in
+      let long = t.size ∙ blank_length x blank in
+      let small : number < 1000 = omega (arith, number_most e) in
+      let fits = line_fits y number long small in
       record {
-        inside = line.inside;
-        refused = λ h. line.line ∙ ap refused_text known;
+        inside = rw (eb, el) fits.inside;
+        refused = λ h. rw (eb, el) (line_is y number long small ∙ ap refused_text known);
         formula = λ h. absurd (some h);
-        later = line.later ∙ ap (drop (length (refused_text number))) (t.unchanged (λ h. some (sym same ∙ h)) ∙ blank);
+        later = rw (eb, el) (fits.later ∙ ap (drop (length (refused_text number))) (t.unchanged (λ h. some (sym same ∙ h)) ∙ blank));
       }
 
 -- ---- typed sheets
@@ -115,34 +120,38 @@ module _ (text x y : List ℕ) (blank : x ≡ replicate least_output 0) where
   answered : (a : Result ℕ Refusal) (out : List ℕ) → ReadText text x y a → out ≡ said_for y a → Answered text out
   answered a out p e = record { lent = y; answer = a; read = subst (λ (x : List ℕ). ReadText text x y a) blank p; written = e }
 
-  pub sheet_output : (a : Result ℕ Refusal) → length text ≤ most_text → ReadText text x y a → SheetOutput text (output_of y a)
-  unfolding output_of refused_output said_for
-  sheet_output (Ok size) short p =
+  pub sheet_output : (a : Result ℕ Refusal) → length text ≤ most_text → ReadText text x y a → (r : Output least_output) → r.bytes ≡ bytes_for y a → r.length ≡ length_for a
+      → SheetOutput text r
+  unfolding bytes_for length_for said_for
+  sheet_output (Ok size) short p r eb el =
       let fits = written_fits text x y size p in
       record {
-        inside = omega (arith, fits.long, fits.room, fits.same_length);
-        answered = λ _. answered (Ok size) (take size y) p refl;
+        inside = rw (eb, el) (omega (arith, fits.long, fits.room, fits.same_length));
+        answered = λ _. rw (eb, el) (answered (Ok size) (take size y) p refl);
         unread = λ long. absurd (omega arith);
-        later = fits.later ∙ ap (drop size) blank;
+        later = rw (eb, el) (fits.later ∙ ap (drop size) blank);
       }
-  sheet_output (Err e) short p =
+  sheet_output (Err e) short p r eb el =
       let number = number_of e in
       let same = refused_unchanged text x y e p in
-      let line = line_in y number (ap length same ∙ blank_length x blank) (omega (arith, number_most e)) in
+      let long = ap length same ∙ blank_length x blank in
+      let small : number < 1000 = omega (arith, number_most e) in
+      let fits = line_fits y number long small in
       record {
-        inside = line.inside;
-        answered = λ _. answered (Err e) _ p line.line;
-        unread = λ long. absurd (omega arith);
-        later = line.later ∙ ap (drop (length (refused_text number))) (same ∙ blank);
+        inside = rw (eb, el) fits.inside;
+        answered = λ _. rw (eb, el) (answered (Err e) _ p (line_is y number long small));
+        unread = λ far. absurd (omega arith);
+        later = rw (eb, el) (fits.later ∙ ap (drop (length (refused_text number))) (same ∙ blank));
       }
 
-pub unread_output : (text x : List ℕ) → x ≡ replicate least_output 0 → most_text < length text → SheetOutput text (refused_output x 0)
-unfolding refused_output
-unread_output text x blank long =
-    let line = line_in x 0 (blank_length x blank) (omega arith) in
+pub unread_output : (text x : List ℕ) → x ≡ replicate least_output 0 → most_text < length text → (r : Output least_output) → r.bytes ≡ sets x 0 (refused_text 0)
+    → r.length ≡ length (refused_text 0) → SheetOutput text r
+unread_output text x blank long r eb el =
+    let size = blank_length x blank in
+    let fits = line_fits x 0 size (omega arith) in
     record {
-      inside = line.inside;
+      inside = rw (eb, el) fits.inside;
       answered = λ short. absurd (omega arith);
-      unread = λ _. line.line;
-      later = line.later ∙ ap (drop (length (refused_text 0))) blank;
+      unread = λ _. rw (eb, el) (line_is x 0 size (omega arith));
+      later = rw (eb, el) (fits.later ∙ ap (drop (length (refused_text 0))) blank);
     }

@@ -1,7 +1,7 @@
 -- Laws of the line of a verdict and of the page of a table.
 use Prim.Native.Nat.{ℕ, ◌+◌, ◌*◌, ◌≤◌, ◌<◌}
 use mathlib.Core.List.{List, [], ◌∷◌, ◌++◌}
-use mathlib.Core.Path.{◌≡◌, refl, sym, ◌∙◌, ap, subst}
+use mathlib.Core.Path.{◌≡◌, refl, sym, ◌∙◌, subst}
 use native.Mathlib.Omega.{arith}
 use lib.ListN.{length, get_or, drop, drop_of_length-le}
 use Rattle.stored.proofs.Rules.{length_in_order}
@@ -13,14 +13,12 @@ use Rattle.std.specs.Prelude.{Result, Ok, Err, IfOk}
 use Rattle.stored.specs.declared.refusal.Refusal.{Refusal}
 use Rattle.stored.specs.Refusal.{number_of}
 use Rattle.stored.specs.Sheet.{sheet_refusal}
-use Rattle.stored.specs.Tree.{pick}
-use Rattle.stored.proofs.Refusals.{number_most, refusal_applies, of_value, of_refusal}
+use Rattle.stored.proofs.Refusals.{number_most, number_some, of_value, of_refusal}
 use Rattle.stored.proofs.Accepted.{sheet_small}
 use Rattle.board.specs.declared.Board.{Board}
 use Rattle.board.specs.Board.{new_board, open_answer}
-use Rattle.printed.specs.Wall.{opening_of}
-use Rattle.lines.specs.Lines.{line_with, ThreeDigits, refused_text, padded, Put}
-use Rattle.printed.specs.Line.{word_of, numbers_of, verdict_text, line_text, most_line, line_of}
+use Rattle.lines.specs.Lines.{line_with, ThreeDigits, padded, Put}
+use Rattle.printed.specs.Line.{word_of, numbers_of, verdict_text, line_text, most_line}
 use Rattle.printed.specs.Page.{table_byte, table_text}
 use Rattle.lines.proofs.Copies.{copied_all}
 use Rattle.lines.proofs.Texts.{line_fits, refused_length}
@@ -77,12 +75,12 @@ short_drop l n h =
     drop_of_length-le l self ∙ sym (drop_of_length-le l le)
 
 -- ---- the sheet of the board program
-pub opening_board : (s : List ℕ) (b : Board) → open_answer s ≡ Ok b → Ok b ≡ opening_of s
-unfolding open_answer opening_of pick
-opening_board s b e = let z = of_value (sheet_refusal s) (new_board s) b e in rw z.0 (ap Ok (sym z.1))
+pub opened_board : (s : List ℕ) (b : Board) → open_answer s ≡ Ok b → (sheet_refusal s ≡ 0) × (b ≡ new_board s)
+unfolding open_answer
+opened_board s b e = let z = of_value (sheet_refusal s) (new_board s) b e in (z.0, sym z.1)
 
-pub opening_line : (s : List ℕ) (e : Refusal) → open_answer s ≡ Err e → Err (line_of (refused_text (number_of e))) ≡ opening_of s
-unfolding open_answer opening_of pick
-opening_line s e is =
+pub refused_number : (s : List ℕ) (e : Refusal) → open_answer s ≡ Err e → (sheet_refusal s ≡ 0 → ⊥) × (number_of e ≡ sheet_refusal s)
+unfolding open_answer
+refused_number s e is =
     let number = of_refusal (sheet_refusal s) (new_board s) e (let small = sheet_small s in omega arith) is in
-    rw (refusal_applies e number) (ap (λ (n : ℕ). Err (line_of (refused_text n))) number)
+    ((λ z. let some = number_some e in omega arith), number)

@@ -8,8 +8,6 @@ use Rattle.checker.specs.declared.check.Verdict.{Verdict}
 use Rattle.stored.specs.declared.refusal.Refusal.{Refusal}
 use Rattle.stored.specs.Refusal.{number_of}
 use Rattle.checker.specs.Check.{check_answer}
-use Rattle.lines.specs.declared.output.Output.{Output}
-use Rattle.lines.specs.Output.{text_in}
 use Rattle.lines.specs.Input.{sheet_of, trace_of}
 use Rattle.lines.specs.Lines.{line_with, refused_text}
 
@@ -43,10 +41,6 @@ line_text (Err refusal) = refused_text (number_of refusal)
 -- the bytes that a line takes at most
 abbrev pub most_line : ℕ
 most_line = 32
-
--- a text in an array of so many bytes
-abbrev pub line_of : List ℕ → Output most_line
-line_of l = text_in most_line l
 
 -- the check's answer to the program's input, over words enough
 unfoldable pub answer_for : List ℕ → Result Verdict Refusal

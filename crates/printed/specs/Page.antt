@@ -5,8 +5,6 @@ use Rattle.stored.specs.Layout.{least_words}
 use Rattle.stored.specs.declared.refusal.Refusal.{Refusal}
 use Rattle.stored.specs.Refusal.{number_of}
 use Rattle.checker.specs.Table.{table_answer}
-use Rattle.lines.specs.declared.output.Output.{Output}
-use Rattle.lines.specs.Output.{text_in}
 use Rattle.lines.specs.Input.{sheet_of, trace_of}
 use Rattle.lines.specs.Lines.{refused_text}
 
@@ -27,10 +25,6 @@ table_text rows = in_order 1088 (table_byte rows)
 unfoldable pub text_of : Result (List ℕ) Refusal → List ℕ
 text_of (Ok rows) = table_text rows
 text_of (Err refusal) = refused_text (number_of refusal)
-
--- a text in an array of 1,088 bytes
-abbrev pub page_of : List ℕ → Output 1088
-page_of l = text_in 1088 l
 
 -- The program's input is the node in two bytes, a byte for each of the three cycles, and the sheet with the trace.
 unfoldable pub answer_to : List ℕ → Result (List ℕ) Refusal

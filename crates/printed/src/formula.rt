@@ -1,7 +1,7 @@
 // What the formula program writes.
 ghost use Rattle.printed.specs.Formula.{OutputOf};
 
-use lines::output;
+use lines::answer;
 use lines::output::Output;
 use stored::layout::LEAST_OUTPUT;
 use translator::translate;
@@ -10,7 +10,7 @@ use translator::translate;
 pub fn formula_output(sheet: &[u8]) -> Output<LEAST_OUTPUT>
     ensures { OutputOf sheet.now result }
 {
-    let mut bytes = output::blank();
+    let mut bytes = answer::blank();
     let answer = translate(sheet, &mut bytes);
-    output::answered(bytes, answer)
+    answer::answered(bytes, answer)
 }

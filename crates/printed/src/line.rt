@@ -2,7 +2,8 @@
 ghost use Rattle.std.specs.Prelude.{◌≡◌, ◌≤◌, length, replicate, IfOk};
 ghost use Rattle.checker.specs.Small.{SmallVerdict};
 ghost use Rattle.lines.specs.Lines.{Put};
-ghost use Rattle.printed.specs.Line.{verdict_text, line_text, most_line, line_of, line_for, answer_for};
+ghost use Rattle.lines.specs.Output.{Holds};
+ghost use Rattle.printed.specs.Line.{verdict_text, line_text, most_line, line_for, answer_for};
 
 use checker::check::{Finding, Verdict, check};
 use lines::input::{lent_words, split};
@@ -68,7 +69,7 @@ fn blank() -> [u8; MOST_LINE]
 // The line of an answer.
 pub fn answer_line(answer: Result<Verdict, Refusal>) -> Output<MOST_LINE>
     requires { IfOk answer SmallVerdict }
-    ensures { (result ≡ line_of (line_text answer)) × (result.length ≤ length result.bytes) }
+    ensures { Holds result (line_text answer) }
 {
     let mut bytes = blank();
     let length = put_answer(&mut bytes, answer);
@@ -77,7 +78,7 @@ pub fn answer_line(answer: Result<Verdict, Refusal>) -> Output<MOST_LINE>
 
 // What the check program writes for its input, short ones too.
 pub fn check_line(input: &[u8]) -> Output<MOST_LINE>
-    ensures { (result ≡ line_of (line_for input.now)) × (result.length ≤ length result.bytes) }
+    ensures { Holds result (line_for input.now) }
 {
     answer_line(answer_for(input))
 }

@@ -1,6 +1,7 @@
 // What the table program writes.
 ghost use Rattle.std.specs.Prelude.{◌≡◌, ◌+◌, ◌<◌, ◌≤◌, length, drop, replicate};
-ghost use Rattle.printed.specs.Page.{glyph_of, row_byte, table_text, text_of, page_of, answer_to, printed_for};
+ghost use Rattle.lines.specs.Output.{Holds};
+ghost use Rattle.printed.specs.Page.{glyph_of, row_byte, table_text, text_of, answer_to, printed_for};
 
 use checker::table::table;
 use lines::input::{byte_at, lent_words, split, word_at};
@@ -47,19 +48,20 @@ fn row_lines(rows: &[u64; 64]) -> [u8; 1088]
 
 // The page of an answer.
 fn page_of(answer: Result<[u64; 64], Refusal>) -> Output<1088>
-    ensures value { result ≡ page_of (text_of answer) }
-    ensures within { result.length ≤ length result.bytes }
+    ensures { Holds result (text_of answer) }
 {
-    match answer {
-        Ok(rows) => Output {
-            bytes: row_lines(&rows),
-            length: 1088,
-        },
+    let rows = match answer {
+        Ok(rows) => rows,
         Err(refusal) => {
             let mut bytes = blank();
             let length = put_refused(&mut bytes, refusal.number());
-            Output { bytes, length }
+            return Output { bytes, length };
         }
+    };
+    let bytes = row_lines(&rows);
+    Output {
+        bytes,
+        length: 1088,
     }
 }
 
@@ -94,7 +96,7 @@ fn answer_to(input: &[u8]) -> Result<[u64; 64], Refusal>
 
 // What the table program writes for its input, short ones too.
 pub fn table_page(input: &[u8]) -> Output<1088>
-    ensures { (result ≡ page_of (printed_for input.now)) × (result.length ≤ length result.bytes) }
+    ensures { Holds result (printed_for input.now) }
 {
     page_of(answer_to(input))
 }

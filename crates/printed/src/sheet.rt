@@ -1,7 +1,7 @@
 // What the text program writes.
 ghost use Rattle.printed.specs.Sheet.{SheetOutput};
 
-use lines::output;
+use lines::answer;
 use lines::output::Output;
 use stored::layout::LEAST_OUTPUT;
 use text::read::read_text;
@@ -16,10 +16,10 @@ pub const HELD: usize = MOST_TEXT + 1;
 pub fn sheet_output(text: &[u8]) -> Output<LEAST_OUTPUT>
     ensures { SheetOutput text.now result }
 {
-    let mut bytes = output::blank();
+    let mut bytes = answer::blank();
     if MOST_TEXT < text.len() {
-        return output::refused(bytes, 0);
+        return answer::refused(bytes, 0);
     }
     let answer = read_text(text, &mut bytes);
-    output::answered(bytes, answer)
+    answer::answered(bytes, answer)
 }

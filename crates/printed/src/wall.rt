@@ -1,7 +1,8 @@
 // What the board program writes: a line a minute.
-ghost use Rattle.std.specs.Prelude.{◌≡◌, ◌≤◌, length, IfErr};
-ghost use Rattle.printed.specs.Line.{line_text, line_of};
-ghost use Rattle.printed.specs.Wall.{opening_of, minute_answer, minute_board};
+ghost use Rattle.std.specs.Prelude.{◌≡◌};
+ghost use Rattle.printed.specs.Line.{line_text};
+ghost use Rattle.lines.specs.Output.{Holds};
+ghost use Rattle.printed.specs.Wall.{Opens, minute_answer, minute_board};
 
 use crate::line::{MOST_LINE, answer_line};
 use board::Board;
@@ -20,8 +21,7 @@ pub struct Minute {
 
 // What the board program does with its sheet: its board, or the line of its refusal.
 pub fn open_line(sheet: &[u8]) -> Result<Board, Output<MOST_LINE>>
-    ensures value { result ≡ opening_of sheet.now }
-    ensures within { IfErr result (λ line. line.length ≤ length line.bytes) }
+    ensures { Opens sheet.now result }
 {
     match Board::open(sheet) {
         Ok(board) => Ok(board),
@@ -32,7 +32,7 @@ pub fn open_line(sheet: &[u8]) -> Result<Board, Output<MOST_LINE>>
 // What the board program does with a minute, two bytes.
 pub fn minute_line(board: Board, minute: &[u8]) -> Minute
     ensures board_value { result.board ≡ minute_board board minute.now }
-    ensures line_value { (result.line ≡ line_of (line_text (minute_answer board minute.now))) × (result.line.length ≤ length result.line.bytes) }
+    ensures line_value { Holds result.line (line_text (minute_answer board minute.now)) }
 {
     let cycle = word_at(minute, 0) as u16;
     let mut words = lent_words();

@@ -27,7 +27,6 @@ fn read_sheet<R: Read>(reader: &mut R, input: &mut [u8]) -> io::Result<usize>
 }
 
 fn write_line<W: Write>(writer: &mut W, line: Output<MOST_LINE>) -> io::Result<()>
-    requires { line.length ≤ length line.bytes }
     ensures { OnOk result (Appends (W.contents writer.old) (W.contents writer.new) (take line.length line.bytes)) }
 {
     writer.write_all(line.as_slice())?;

@@ -10,7 +10,8 @@ use Rattle.checker.specs.Small.{SmallVerdict}
 use Rattle.board.specs.Board.{feed_answer, next_board}
 use Rattle.board.proofs.Answers.{feed_fits}
 use Rattle.board.proofs.Feeds.{next_over_lem, answer_over}
-use Rattle.printed.specs.Line.{line_text, line_of}
+use Rattle.printed.specs.Line.{line_text}
+use Rattle.lines.specs.Output.{Holds}
 use Rattle.printed.specs.Wall.{minute_answer, minute_board}
 use Rattle.printed.proofs.wall.minute_line.Goals as goal
 
@@ -27,12 +28,8 @@ returns c =
     let fed = c.feed-fed.ensures in
     let long = sym words.ensures ∙ sym (length-replicate {A = ℕ} least_words 0) in
     let enough = replicate {A = ℕ} least_words 0 in
-    let line = c.answer_line-line.ensures in record {
+    let told = fed.answer_value ∙ answer_over a.board cycle.result words.result enough long ∙ ap (λ (w : ℕ). feed_answer a.board w enough) cycle.ensures.0 in
+    record {
       board_value = fed.board_value ∙ next_over_lem a.board cycle.result words.result enough long ∙ ap (λ (w : ℕ). next_board a.board w enough) cycle.ensures.0;
-      line_value = (
-        line.0
-            ∙ ap (λ (x : Result Verdict Refusal). line_of (line_text x))
-            (fed.answer_value ∙ answer_over a.board cycle.result words.result enough long ∙ ap (λ (w : ℕ). feed_answer a.board w enough) cycle.ensures.0),
-        line.1,
-      );
+      line_value = subst (λ (x : Result Verdict Refusal). Holds c.answer_line-line.result (line_text x)) told c.answer_line-line.ensures;
     }
