@@ -1,15 +1,7 @@
 -- A node copied by the map stands for the node of the sheet.
-use Prim.Native.Nat.{ℕ, suc, ◌+◌, ◌*◌, ◌/◌, ◌≤◌, ◌<◌}
-use mathlib.Core.Bool.{Bool, true, false, cond, ◌&&◌, ◌||◌, true≢false}
-use mathlib.Core.List.{List}
-use mathlib.Core.Logic.{inl, inr}
-use Rattle.std.specs.Prelude.{◌≢◌}
-use mathlib.Core.Path.{◌≡◌, refl, sym, ◌∙◌, ap, subst}
-use native.Mathlib.Omega.{arith}
-use borrow.Author.Tests.{leb-true, eqb-true, eqb-false, ne_eqb, ltb-true}
-use lib.Dec.{leb, ltb, eqb}
-use lib.ListN.{length, get_or, set, get_or-eq_default}
-use lib.Seq.{get_or-set_same, get_or-set_other}
+use Rattle.std.proofs.Common.{ℕ, suc, ◌+◌, ◌*◌, ◌/◌, ◌≤◌, ◌<◌, Bool, true, false, cond, ◌&&◌, ◌||◌, true≢false, List, inl, inr, ◌≢◌, ◌≡◌, refl, sym, ◌∙◌, ap, subst, arith, leb-true, eqb-true, ne_eqb, ltb-true, leb, ltb, eqb, length, get_or, set, get_or-set_same, get_or-set_other, add-one}
+use Rattle.std.proofs.lemmas.Bool.{eqb-false}
+use Rattle.std.proofs.lemmas.List.{get_or_past}
 use Rattle.semantics.specs.Proposition.{Proposition}
 use Rattle.semantics.specs.Formula.{Formula}
 use Rattle.semantics.specs.Cycles.{count_below}
@@ -41,7 +33,7 @@ same_sort_lem : (k : ℕ) → same_sort k (sort_of requirement_sorts k) (sort_of
 unfolding sort_of same_sort every_below
 same_sort_lem =
     every_number 32 (λ k. same_sort k (sort_of requirement_sorts k) (sort_of emitted_sorts k)) refl
-    (λ k h. ap (λ (z : ℕ). same_sort k z (sort_of emitted_sorts k)) (get_or-eq_default requirement_sorts 0 h) ∙ past (leb 27 k && leb k 29))
+    (λ k h. ap (λ (z : ℕ). same_sort k z (sort_of emitted_sorts k)) (get_or_past requirement_sorts k 0 h) ∙ past (leb 27 k && leb k 29))
   where
     past : (a : Bool) → (a || true) ≡ true
     past true = refl
@@ -178,7 +170,7 @@ mapped_next {y} {r} x i map fits h new j l =
 -- ---- costs
 cost_next : (x : ℕ → Node) (i : ℕ) → copy_costs x i + copy_cost (x i) ≡ copy_costs x (i + 1)
 unfolding copy_costs copy_cost count_below drawing_at
-cost_next x i = rw native.Mathlib.Numerals.add-one (go (is_drawing (x i)) (count_below i (drawing_at x)))
+cost_next x i = rw add-one (go (is_drawing (x i)) (count_below i (drawing_at x)))
   where
     go : (b : Bool) (k : ℕ) → i + 11 * k + cond b 12 1 ≡ suc i + 11 * (k + cond b 1 0)
     go true k = omega arith

@@ -1,14 +1,7 @@
 -- A node copied by a map of its operands, whatever the sorts that its rules went by: it may come next, and is what it was over the nodes that
 -- the map gives.
-use Prim.Native.Nat.{ℕ, ◌+◌, ◌*◌, ◌<◌}
-use mathlib.Core.Bool.{Bool, true, false, not, ◌&&◌, ◌||◌, true≢false, false≢true}
-use mathlib.Core.List.{List}
-use mathlib.Core.Logic.{inl, inr}
-use mathlib.Core.Path.{◌≡◌, refl, sym, ◌∙◌, ap, ap₂}
-use native.Mathlib.Omega.{arith}
-use borrow.Author.Tests.{ne_eqb, eq-eqb}
-use lib.Dec.{leb, eqb}
-use lib.ListN.{get_or}
+use Rattle.std.proofs.Common.{ℕ, ◌+◌, ◌*◌, ◌<◌, Bool, true, false, not, ◌&&◌, ◌||◌, true≢false, List, inl, inr, ◌≡◌, refl, sym, ◌∙◌, ap, ap₂, arith, ne_eqb, eq-eqb, leb, eqb, get_or}
+use Rattle.std.proofs.lemmas.Bool.{false≢true}
 use Rattle.semantics.specs.Proposition.{Proposition, negated, both_of, either_of}
 use Rattle.semantics.specs.Formula.{Formula, point, stretch, whole, unit, chop, conjunction, disjunction, star, scount, sdur, negation, for_some}
 use Rattle.semantics.proofs.Tests.{test, and_left, and_right, and_intro}

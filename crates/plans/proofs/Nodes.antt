@@ -1,11 +1,5 @@
 -- What a node that was put is, by op.
-use Prim.Native.Nat.{ℕ, ◌<◌}
-use mathlib.Core.Bool.{true}
-use mathlib.Core.List.{List}
-use mathlib.Core.Path.{◌≡◌, refl, ◌∙◌, ap, ap₂}
-use native.Mathlib.Omega.{arith}
-use borrow.Author.Tests.{lt-ltb, eq-eqb}
-use lib.Dec.{eqb}
+use Rattle.std.proofs.Common.{ℕ, ◌<◌, true, List, ◌≡◌, refl, ◌∙◌, ap, ap₂, arith, lt-ltb, eq-eqb, eqb}
 use Rattle.semantics.specs.Proposition.{Proposition, signal, name, negated}
 use Rattle.semantics.specs.Formula.{Formula, point, stretch, unit, chop, conjunction, disjunction, slen, scount, negation, for_some, equal}
 use Rattle.stored.specs.declared.Node.{Node}

@@ -1,13 +1,6 @@
 -- New nodes leave the earlier ones: steps compose, what a node is stays, and one node more is a step.
-use Prim.Native.Nat.{ℕ, ◌+◌, ◌≤◌, ◌<◌}
-use mathlib.Core.Bool.{Bool, true, false, cond, ◌&&◌}
-use mathlib.Core.List.{List}
-use mathlib.Core.Logic.{inl, inr}
-use mathlib.Core.Path.{◌≡◌, refl, sym, ◌∙◌, ap, ap₂, subst}
-use native.Mathlib.Omega.{arith}
-use borrow.Author.Tests.{ltb-true, lt-ltb, leb-true, le-leb, eqb-true, eqb-false}
-use lib.Dec.{leb, ltb, eqb}
-use lib.ListN.{length, get_or, drop}
+use Rattle.std.proofs.Common.{ℕ, ◌+◌, ◌≤◌, ◌<◌, Bool, true, false, cond, ◌&&◌, List, inl, inr, ◌≡◌, refl, sym, ◌∙◌, ap, ap₂, subst, arith, ltb-true, lt-ltb, leb-true, le-leb, eqb-true, leb, ltb, eqb, length, get_or, drop}
+use Rattle.std.proofs.lemmas.Bool.{eqb-false}
 use Rattle.semantics.specs.Proposition.{Proposition}
 use Rattle.semantics.specs.Formula.{Formula}
 use Rattle.semantics.proofs.Tests.{test, and_intro, and_left, and_right}

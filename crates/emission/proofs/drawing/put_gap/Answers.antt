@@ -1,5 +1,5 @@
 -- `emission::drawing::put_gap` meets its contract.
-use native.Mathlib.Omega.{arith}
+use Rattle.std.proofs.Common.{arith}
 use Rattle.semantics.specs.Translation.{anywhere, undrawn_gap}
 use Rattle.plans.specs.Plan.{named, everywhere, no_more, pointed, chopped, conjoined}
 use Rattle.emission.proofs.drawing.put_gap.Goals as goal

@@ -1,5 +1,5 @@
 -- `emission::drawing::put_mark` meets its contract.
-use native.Mathlib.Omega.{arith}
+use Rattle.std.proofs.Common.{arith}
 use Rattle.semantics.specs.Translation.{undrawn_mark}
 use Rattle.plans.specs.Plan.{named, exactly, pointed, conjoined}
 use Rattle.emission.proofs.drawing.put_mark.Goals as goal
