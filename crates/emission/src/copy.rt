@@ -12,12 +12,12 @@ use crate::drawing;
 use plans::node::put_node;
 use stored::{Node, layout, masks, nodes, ops};
 
-// Whether a field used so is the number of a node.
+// Whether a field used so is the number of a node, a proposition's or a formula's.
 #[tactic(auto, unfolding(stored::specs::Node::is_operand))]
 pub fn is_operand(what: usize) -> bool
     ensures { result ≡ is_operand what }
 {
-    (what == 7) | (what == 8)
+    matches!(what, 7 | 8)
 }
 
 // Field v of a node, used so: an operand is the node that stands for it.
