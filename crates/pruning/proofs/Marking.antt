@@ -2,9 +2,9 @@
 use Rattle.std.proofs.Common.{ℕ, ◌+◌, ◌≤◌, ◌<◌, Bool, true, false, List, ◌⊎◌, inl, inr, ◌≡◌, sym, ◌∙◌, ap, subst, true≢false, arith, eqb-true, eqb, length, length-set, set, replicate, get_or}
 use Rattle.std.proofs.lemmas.Bool.{eqb-false}
 use Rattle.std.proofs.lemmas.Grind.{common_steps}
-use Rattle.semantics.proofs.Tests.{test, or_elim, or_left, or_right}
+use Rattle.semantics.proofs.Tests.{test}
 use Rattle.stored.specs.declared.Node.{Node}
-use Rattle.stored.specs.Node.{emitted_sorts, a_use, b_use, operands_right}
+use Rattle.stored.specs.Node.{emitted_sorts, operands_right}
 use Rattle.stored.specs.Reached.{is_node, has_operand}
 use Rattle.stored.proofs.Ways.{operand_less}
 use Rattle.pruning.specs.Pruned.{Live, marked, marked_node, Parent, MarkedFrom}
@@ -35,27 +35,15 @@ module _ (marks : List Bool) (n : Node) where
 
   node_mono : (k : ℕ) → Live marks k → Live (marked_node marks n) k
   unfolding marked_node
-  node_mono k h = marked_mono (marked marks (a_use n.op) n.a) (b_use n.op) n.b k (marked_mono marks (a_use n.op) n.a k h)
+  node_mono k h = grind (arith, marked_mono)
 
   node_new : (k : ℕ) → k < length marks → has_operand n k ≡ true → Live (marked_node marks n) k
   unfolding marked_node has_operand
-  node_new k l e =
-      let first = marked marks (a_use n.op) n.a in
-      elim (or_elim (is_node (a_use n.op) n.a k) (is_node (b_use n.op) n.b k) e) [
-        | inl h ↦ marked_mono first (b_use n.op) n.b k (marked_new marks (a_use n.op) n.a k l h)
-        | inr h ↦ marked_new first (b_use n.op) n.b k (omega (arith, marked_length marks (a_use n.op) n.a)) h
-      ]
+  node_new k l e = grind (arith, marked_mono, marked_new, marked_length)
 
   node_back : (k : ℕ) → Live (marked_node marks n) k → (Live marks k) ⊎ (has_operand n k ≡ true)
   unfolding marked_node has_operand
-  node_back k h =
-      elim (marked_back (marked marks (a_use n.op) n.a) (b_use n.op) n.b k h) [
-        | inl g ↦ elim (marked_back marks (a_use n.op) n.a k g) [
-          | inl old ↦ inl old
-          | inr new ↦ inr (or_left _ _ new)
-        ]
-        | inr new ↦ inr (or_right (is_node (a_use n.op) n.a k) _ new)
-      ]
+  node_back k h = grind (arith, marked_back)
 
 -- ---- from the root down
 pub none_marked : (n k : ℕ) → get_or (replicate n false) k false ≡ false
