@@ -1,8 +1,6 @@
 -- Marking from the root down: a marked node marks its operands, which are earlier ones.
-use Rattle.std.proofs.Common.{ℕ, ◌+◌, ◌≤◌, ◌<◌, Bool, true, false, List, ◌⊎◌, inl, inr, ◌≡◌, sym, ◌∙◌, ap, subst, true≢false, arith, eqb-true, eqb, length, length-set, set, replicate, get_or}
-use Rattle.std.proofs.lemmas.Bool.{eqb-false}
+use Rattle.std.proofs.Common.{ℕ, ◌+◌, ◌≤◌, ◌<◌, Bool, true, false, List, ◌⊎◌, inl, inr, ◌≡◌, subst, arith, length, length-set, set, replicate, get_or}
 use Rattle.std.proofs.lemmas.Grind.{common_steps}
-use Rattle.semantics.proofs.Tests.{test}
 use Rattle.stored.specs.declared.Node.{Node}
 use Rattle.stored.specs.Node.{emitted_sorts, operands_right}
 use Rattle.stored.specs.Reached.{is_node, has_operand}
@@ -67,31 +65,19 @@ module _ {x : ℕ → Node} {root i : ℕ} {marks : List Bool} (m : MarkedFrom x
       record {
         inside = m.inside;
         root_live = m.root_live;
-        closed = λ p k least most live h.
-            elim (test (eqb p i)) [
-              | inl e ↦ absurd (true≢false (sym live ∙ ap (λ (o : ℕ). get_or marks o false) (eqb-true p i e) ∙ dead))
-              | inr e ↦ let differs = eqb-false p i e in m.closed p k (omega arith) most live h
-            ];
+        closed = λ p k least most live h. grind (arith, m.closed p k);
         parented = m.parented;
       }
 
   module _ (right : (k : ℕ) → k ≤ root → operands_right emitted_sorts x k ≡ true) (most : i ≤ root) (live-i : Live marks i) where
     -- a marked node from i on was marked before
     marked_before : (p : ℕ) → i ≤ p → Live (marked_node marks (x i)) p → Live marks p
-    marked_before p least live =
-        elim (node_back marks (x i) p live) [
-          | inl old ↦ old
-          | inr new ↦ absurd (omega (arith, operand_less emitted_sorts x i p (right i most) new))
-        ]
+    marked_before p least live = let less = operand_less emitted_sorts x i p (right i most) in grind (arith, node_back marks (x i) p live)
 
     turn_closed : (p k : ℕ) → i ≤ p → p ≤ root → Live (marked_node marks (x i)) p → has_operand (x p) k ≡ true → Live (marked_node marks (x i)) k
     turn_closed p k least most live e =
-        elim (test (eqb p i)) [
-          | inl same ↦ node_new marks (x i) k (omega (arith, m.inside, operand_less emitted_sorts x p k (right p most) e))
-              (subst (λ (o : ℕ). has_operand (x o) k ≡ true) (eqb-true p i same) e)
-          | inr other ↦ let differs = eqb-false p i other in
-              node_mono marks (x i) k (m.closed p k (omega arith) most (marked_before p least live) e)
-        ]
+        let less = operand_less emitted_sorts x p k (right p most) e in
+        grind (arith, m.inside, m.closed p k, marked_before p least live, node_new marks (x i) k, node_mono marks (x i) k)
 
     turn_parented : (k : ℕ) → Live (marked_node marks (x i)) k → (k ≡ root → ⊥) → Parent x root (marked_node marks (x i)) k
     turn_parented k live other =
