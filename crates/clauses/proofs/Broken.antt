@@ -1,10 +1,5 @@
 -- "The clause is broken": what the plan of each type tells, by at most 10 nodes and 3 a name.
-use Prim.Native.Nat.{ℕ, ◌+◌, ◌*◌, ◌≤◌}
-use mathlib.Core.Bool.{true}
-use mathlib.Core.List.{List}
-use mathlib.Core.Path.{◌≡◌, refl}
-use native.Mathlib.Omega.{arith}
-use lib.Dec.{ltb}
+use Rattle.std.proofs.Common.{ℕ, ◌+◌, ◌*◌, ◌≤◌, true, List, ◌≡◌, refl, arith, ltb}
 use Rattle.semantics.specs.Formula.{Formula}
 use Rattle.semantics.specs.Placement.{Names, union, without}
 use Rattle.semantics.specs.Translation.{shortest_of, unanswered_of, broken_of}

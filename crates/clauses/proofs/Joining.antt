@@ -1,15 +1,6 @@
 -- The clauses joined by role, and the root over them.
-use Prim.Native.Nat.{ℕ, zero, suc, ◌+◌, ◌*◌, ◌≤◌, ◌<◌}
-use mathlib.Core.Bool.{Bool, true, false, cond}
-use mathlib.Core.List.{List, [], ◌∷◌, ◌++◌}
-use mathlib.Core.Logic.{inl, inr}
-use mathlib.Core.Path.{◌≡◌, refl, sym, ◌∙◌, ap, ap₂, subst}
-use native.Mathlib.Numerals.{add-one}
-use native.Mathlib.Omega.{arith}
-use borrow.Author.Tests.{eqb-true, eqb-false, eq-eqb, ne_eqb}
-use lib.Dec.{eqb}
-use lib.ListN.{length, get_or, set, take}
-use lib.Seq.{get_or-set_same, get_or-set_other, take-suc, take_all}
+use Rattle.std.proofs.Common.{ℕ, zero, suc, ◌+◌, ◌*◌, ◌≤◌, ◌<◌, Bool, true, false, cond, List, [], ◌∷◌, ◌++◌, inl, inr, ◌≡◌, refl, sym, ◌∙◌, ap, ap₂, subst, add-one, arith, eqb-true, eq-eqb, ne_eqb, eqb, length, get_or, set, take, get_or-set_same, get_or-set_other, take-suc, take_all, add-mul, one-mul, length-set}
+use Rattle.std.proofs.lemmas.Bool.{eqb-false}
 use Rattle.semantics.specs.Proposition.{bit}
 use Rattle.semantics.specs.Formula.{Formula, disjunction, at}
 use Rattle.semantics.specs.Clause.{Role, Clause}
@@ -80,7 +71,7 @@ clauses_at_lem nodes clauses c k h = get_or_in_order c (clause_at nodes clauses)
 
 -- ---- costs
 joined_cost : (k m : ℕ) → k * (11 + 3 * m) + (11 + 3 * m) ≡ (k + 1) * (11 + 3 * m)
-joined_cost k m = sym (native.Mathlib.Nat.add-mul k 1 (11 + 3 * m) ∙ ap (λ (z : ℕ). k * (11 + 3 * m) + z) (native.Mathlib.Nat.one-mul (11 + 3 * m)))
+joined_cost k m = sym (add-mul k 1 (11 + 3 * m) ∙ ap (λ (z : ℕ). k * (11 + 3 * m) + z) (one-mul (11 + 3 * m)))
 
 joined_most : (k m : ℕ) → k ≤ 8 → m ≤ 3 → k * (11 + 3 * m) ≤ 160
 joined_most k zero h l = omega arith
@@ -152,7 +143,7 @@ module _ (cs : List Clause) (k : ℕ) (c : Clause) (inside : k < length cs) (is 
     joined_one {w} {r} side all s new =
         record {
           step = all;
-          two = lib.ListN.length-set sides role r ∙ h.two;
+          two = length-set sides role r ∙ h.two;
           has =
               λ j l. elim (test (eqb j role)) [
                 | inl q ↦ let e = eqb-true j role q in

@@ -1,13 +1,6 @@
 -- Placed names: how a plan over them is written, and what it tells.
-use Prim.Native.Nat.{ℕ, zero, suc, ◌+◌, ◌*◌, ◌%◌, ◌^◌, ◌≤◌, ◌<◌}
-use mathlib.Core.Bool.{Bool, true, false, not, cond, ◌&&◌, ◌||◌, true≢false}
-use mathlib.Core.List.{List}
-use mathlib.Core.Logic.{inl, inr}
-use mathlib.Core.Path.{◌≡◌, refl, sym, ◌∙◌, ap}
-use native.Mathlib.Nat.{div-eq_of_lt, pow-le-pow_right}
-use native.Mathlib.Omega.{arith}
-use borrow.Author.Tests.{ltb-true, ltb-false, lt-ltb}
-use lib.Dec.{eqb, ltb}
+use Rattle.std.proofs.Common.{ℕ, zero, suc, ◌+◌, ◌*◌, ◌%◌, ◌^◌, ◌≤◌, ◌<◌, Bool, true, false, not, cond, ◌&&◌, ◌||◌, true≢false, List, inl, inr, ◌≡◌, refl, sym, ◌∙◌, ap, arith, ltb-true, ltb-false, lt-ltb, eqb, ltb}
+use Rattle.std.proofs.Math.Nat.{div-eq_of_lt, pow-le-pow_right}
 use Rattle.semantics.specs.Proposition.{bit, name}
 use Rattle.semantics.specs.Formula.{Formula, conjunction, scount, at, for_some, equal}
 use Rattle.semantics.specs.Placement.{Names, union, without}

@@ -1,22 +1,14 @@
 -- A node copied by the map stands for the node of the sheet.
-use Prim.Native.Nat.{ℕ, suc, ◌+◌, ◌*◌, ◌/◌, ◌≤◌, ◌<◌}
-use mathlib.Core.Bool.{Bool, true, false, not, cond, ◌&&◌, ◌||◌, true≢false}
-use mathlib.Core.List.{List}
-use mathlib.Core.Logic.{inl, inr}
-use Rattle.std.specs.Prelude.{◌≢◌}
-use mathlib.Core.Path.{◌≡◌, refl, sym, ◌∙◌, ap, subst}
-use native.Mathlib.Omega.{arith}
-use borrow.Author.Tests.{leb-true, eqb-true, eqb-false, ltb-true}
-use lib.Dec.{leb, ltb, eqb}
-use lib.ListN.{length, get_or, set, get_or-eq_default}
-use lib.Seq.{get_or-set_same, get_or-set_other}
+use Rattle.std.proofs.Common.{ℕ, suc, ◌+◌, ◌*◌, ◌/◌, ◌≤◌, ◌<◌, Bool, true, false, not, cond, ◌&&◌, ◌||◌, true≢false, List, inl, inr, ◌≢◌, ◌≡◌, refl, sym, ◌∙◌, ap, subst, arith, leb-true, eqb-true, ltb-true, leb, ltb, eqb, length, get_or, set, get_or-set_same, get_or-set_other, add-one, Option, Some, None}
+use borrow.Author.Tests.{eqb-false}
+use Rattle.std.proofs.lemmas.Bool.{eqb-false}
+use Rattle.std.proofs.lemmas.List.{get_or_past}
 use Rattle.semantics.specs.Proposition.{Proposition}
 use Rattle.semantics.specs.Formula.{Formula}
 use Rattle.semantics.specs.Cycles.{count_below}
 use Rattle.semantics.specs.Translation.{undrawn}
 use Rattle.semantics.proofs.Tests.{test, and_left, and_right}
 use Rattle.semantics.proofs.Cycles.{count_most}
-use Rattle.std.proofs.Common.{Option, Some, None}
 use Rattle.std.specs.Option.{is_some}
 use Rattle.stored.specs.declared.Node.{Node}
 use Rattle.stored.specs.declared.nodes.Sort.{Sort}
@@ -45,7 +37,7 @@ sort_kept_lem : (k : ℕ) → sort_kept k (sort_of requirement_sorts k) (sort_of
 unfolding sort_of same_sort sort_kept every_below
 sort_kept_lem =
     every_number 32 (λ k. sort_kept k (sort_of requirement_sorts k) (sort_of emitted_sorts k)) refl
-    (λ k h. ap (λ (z : Option Sort). sort_kept k z (sort_of emitted_sorts k)) (get_or-eq_default requirement_sorts no_op h) ∙ past (leb 27 k && leb k 29))
+    (λ k h. ap (λ (z : Option Sort). sort_kept k z (sort_of emitted_sorts k)) (get_or_past requirement_sorts k no_op h) ∙ past (leb 27 k && leb k 29))
   where
     past : (a : Bool) → (a || true) ≡ true
     past true = refl
@@ -186,7 +178,7 @@ mapped_next {y} {r} x i map fits h new j l =
 -- ---- costs
 cost_next : (x : ℕ → Node) (i : ℕ) → copy_costs x i + copy_cost (x i) ≡ copy_costs x (i + 1)
 unfolding copy_costs copy_cost count_below drawing_at
-cost_next x i = rw native.Mathlib.Numerals.add-one (go (is_drawing (x i)) (count_below i (drawing_at x)))
+cost_next x i = rw add-one (go (is_drawing (x i)) (count_below i (drawing_at x)))
   where
     go : (b : Bool) (k : ℕ) → i + 11 * k + cond b 12 1 ≡ suc i + 11 * (k + cond b 1 0)
     go true k = omega arith

@@ -1,18 +1,9 @@
 -- A node copied by a map of its operands, whatever the sorts that its rules went by: it may come next, and is what it was over the nodes that
 -- the map gives.
-use Prim.Native.Nat.{ℕ, ◌+◌, ◌*◌, ◌<◌}
-use mathlib.Core.Bool.{Bool, true, false, not, ◌&&◌, ◌||◌, true≢false}
-use mathlib.Core.List.{List}
-use mathlib.Core.Logic.{inl, inr}
-use mathlib.Core.Path.{◌≡◌, refl, sym, ◌∙◌, ap, ap₂}
-use native.Mathlib.Omega.{arith}
-use borrow.Author.Tests.{ne_eqb}
-use lib.Dec.{leb, eqb}
-use lib.ListN.{get_or}
+use Rattle.std.proofs.Common.{ℕ, ◌+◌, ◌*◌, ◌<◌, Bool, true, false, not, ◌&&◌, ◌||◌, true≢false, List, inl, inr, ◌≡◌, refl, sym, ◌∙◌, ap, ap₂, arith, ne_eqb, leb, eqb, get_or, Option}
 use Rattle.semantics.specs.Proposition.{Proposition, negated, both_of, either_of}
 use Rattle.semantics.specs.Formula.{Formula, point, stretch, whole, unit, chop, conjunction, disjunction, star, scount, sdur, negation, for_some}
 use Rattle.semantics.proofs.Tests.{test, and_left, and_right, and_intro}
-use Rattle.std.proofs.Common.{Option}
 use Rattle.std.specs.Option.{is_some}
 use Rattle.stored.specs.declared.Node.{Node}
 use Rattle.stored.specs.declared.nodes.Sort.{Sort}

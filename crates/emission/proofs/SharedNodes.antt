@@ -1,11 +1,6 @@
 -- The shared nodes come at their numbers.
-use Prim.Native.Nat.{ℕ, ◌+◌, ◌*◌, ◌<◌}
-use mathlib.Core.List.{List}
-use mathlib.Core.Logic.{inl, inr}
-use mathlib.Core.Path.{◌≡◌, sym, ◌∙◌, subst}
-use native.Mathlib.Omega.{arith}
-use borrow.Author.Tests.{eqb-true, eqb-false}
-use lib.Dec.{eqb}
+use Rattle.std.proofs.Common.{ℕ, ◌+◌, ◌*◌, ◌<◌, List, inl, inr, ◌≡◌, sym, ◌∙◌, subst, arith, eqb-true, eqb}
+use Rattle.std.proofs.lemmas.Bool.{eqb-false}
 use Rattle.semantics.specs.Proposition.{name}
 use Rattle.semantics.specs.Formula.{Formula, equal, slen, scount}
 use Rattle.semantics.specs.Translation.{anywhere, extended, nothing}

@@ -9,8 +9,8 @@ ghost use Rattle.plans.specs.Plan.{WroteProposition, Wrote};
 
 use crate::shared::ANYWHERE;
 use plans::node::{Op, put};
+use rows::count::Comparison;
 use rows::shape::Symbol;
-use stored::ops;
 
 // That signal k is low.
 fn put_low(out: &mut [u8], k: usize) -> usize
@@ -60,7 +60,7 @@ pub fn put_symbol(out: &mut [u8], q: usize, k: usize) -> usize
             let high = put(out, Op::Signal(k));
             put(out, Op::Unit(high))
         }
-        Symbol::Either => put(out, Op::Length(ops::EQUAL, 1)),
+        Symbol::Either => put(out, Op::Length(Comparison::Equal, 1)),
         Symbol::LowStretch => {
             let low = put_low(out, k);
             put(out, Op::Stretch(low))
@@ -79,7 +79,7 @@ pub fn put_mark(out: &mut [u8], u: usize) -> usize
     requires { u < 65536 }
     ensures { Wrote out.old out.new result (undrawn_mark u) }
 {
-    let here = put(out, Op::Length(ops::EQUAL, 0));
+    let here = put(out, Op::Length(Comparison::Equal, 0));
     let marked = put(out, Op::Point(3 + 2 * u));
     put(out, Op::And(here, marked))
 }
@@ -91,7 +91,7 @@ fn put_least(out: &mut [u8], least: usize) -> usize
     if least == 0 {
         ANYWHERE
     } else {
-        put(out, Op::Length(ops::AT_LEAST, least))
+        put(out, Op::Length(Comparison::AtLeast, least))
     }
 }
 
@@ -102,7 +102,7 @@ pub fn put_gap(out: &mut [u8], u: usize, v: usize, least: usize, most: usize) ->
 {
     let start = put(out, Op::Point(3 + 2 * u));
     let not_less = put_least(out, least);
-    let not_more = put(out, Op::Length(ops::AT_MOST, most));
+    let not_more = put(out, Op::Length(Comparison::AtMost, most));
     let range = put(out, Op::And(not_less, not_more));
     let gap = put(out, Op::And(start, range));
     let end = put(out, Op::Point(3 + 2 * v));

@@ -5,7 +5,7 @@ ghost use Rattle.stored.specs.Sheet.{header_of};
 ghost use Rattle.plans.specs.Emission.{count, Good, Step, Shared, Ready};
 
 use plans::node::{Op, put};
-use stored::ops;
+use rows::count::Comparison;
 
 // Length 0 or more: any interval.
 pub const ANYWHERE: usize = 0;
@@ -20,9 +20,9 @@ fn put_lengths(out: &mut [u8])
     requires { (Good out.old) × (count out.old ≡ 0) }
     ensures { (Shared out.new 0) × (count out.new ≡ 3) × (Step out.old out.new 3) }
 {
-    put(out, Op::Length(ops::AT_LEAST, 0));
-    put(out, Op::Length(ops::ABOVE, 0));
-    put(out, Op::Length(ops::BELOW, 0));
+    put(out, Op::Length(Comparison::AtLeast, 0));
+    put(out, Op::Length(Comparison::Above, 0));
+    put(out, Op::Length(Comparison::Below, 0));
 }
 
 // Name u, and that it has one mark.
@@ -31,7 +31,7 @@ fn put_name(out: &mut [u8], u: usize)
     ensures { (Shared out.new (u + 1)) × (count out.new ≡ 3 + 2 * (u + 1)) × (Step out.old out.new 2) }
 {
     let marked = put(out, Op::Name(u));
-    put(out, Op::Count(ops::EQUAL, marked, 1));
+    put(out, Op::Count(Comparison::Equal, marked, 1));
 }
 
 pub fn put_shared(out: &mut [u8], m: usize)

@@ -1,5 +1,4 @@
 -- Laws of plans, for the crates above.
-pub mod Calls
 pub mod Steps
 pub mod Nodes
 pub mod Plans

@@ -1,17 +1,9 @@
 -- New nodes leave the earlier ones: steps compose, what a node is stays, and one node more is a step.
-use Prim.Native.Nat.{ℕ, ◌+◌, ◌≤◌, ◌<◌}
-use mathlib.Core.Bool.{Bool, true, false, cond, ◌&&◌}
-use mathlib.Core.List.{List}
-use mathlib.Core.Logic.{inl, inr}
-use mathlib.Core.Path.{◌≡◌, refl, sym, ◌∙◌, ap, ap₂, subst}
-use native.Mathlib.Omega.{arith}
-use borrow.Author.Tests.{ltb-true, lt-ltb, leb-true, le-leb, eqb-true, eqb-false}
-use lib.Dec.{leb, ltb, eqb}
-use lib.ListN.{length, get_or, drop}
+use Rattle.std.proofs.Common.{ℕ, ◌+◌, ◌≤◌, ◌<◌, Bool, true, false, cond, ◌&&◌, List, inl, inr, ◌≡◌, refl, sym, ◌∙◌, ap, ap₂, subst, arith, ltb-true, eqb-true, ltb, eqb, length, get_or, drop, Option}
+use Rattle.std.proofs.lemmas.Bool.{eqb-false}
 use Rattle.semantics.specs.Proposition.{Proposition}
 use Rattle.semantics.specs.Formula.{Formula}
-use Rattle.semantics.proofs.Tests.{test, and_intro, and_left, and_right}
-use Rattle.std.proofs.Common.{Option}
+use Rattle.semantics.proofs.Tests.{test, and_intro}
 use Rattle.stored.specs.declared.Node.{Node}
 use Rattle.stored.specs.declared.nodes.Sort.{Sort}
 use Rattle.stored.specs.declared.nodes.Use.{Use}
@@ -280,31 +272,15 @@ pub record Fits (x : List ℕ) (n : Node) : Type 0 where
 pub fits_open : (x : List ℕ) (n : Node) → fits x n ≡ true → Fits x n
 unfolding fits
 fits_open x n e =
-    let all = and_right (leb least_output (length x)) _ e in
-    let four = and_left (ltb n.op 256 && (ltb n.q 256 && (ltb n.a 65536 && ltb n.b 65536))) _ all in
-    let three = and_right (ltb n.op 256) _ four in
-    let two = and_right (ltb n.q 256) _ three in
     record {
-      long = leb-true least_output (length x) (and_left (leb least_output (length x)) _ e);
-      fields =
-          record {
-            op_fits = ltb-true _ 256 (and_left (ltb n.op 256) _ four);
-            q_fits = ltb-true _ 256 (and_left (ltb n.q 256) _ three);
-            a_fits = ltb-true _ 65536 (and_left (ltb n.a 65536) _ two);
-            b_fits = ltb-true _ 65536 (and_right (ltb n.a 65536) _ two);
-          };
-      room = ltb-true (count x) most_emitted (and_right (ltb n.op 256 && (ltb n.q 256 && (ltb n.a 65536 && ltb n.b 65536))) _ all);
+      long = grind arith;
+      fields = record { op_fits = grind arith; q_fits = grind arith; a_fits = grind arith; b_fits = grind arith };
+      room = grind arith;
     }
 
 fits_made : (x : List ℕ) (n : Node) → Fits x n → fits x n ≡ true
 unfolding fits
-fits_made x n h =
-    let f = h.fields in
-    and_intro _ _ (le-leb least_output (length x) h.long)
-    (and_intro _ _
-    (and_intro _ _ (lt-ltb _ 256 f.op_fits)
-    (and_intro _ _ (lt-ltb _ 256 f.q_fits) (and_intro _ _ (lt-ltb _ 65536 f.a_fits) (lt-ltb _ 65536 f.b_fits))))
-    (lt-ltb (count x) most_emitted h.room))
+fits_made x n h = let f = h.fields in grind (arith, h.long, h.room, f.op_fits, f.q_fits, f.a_fits, f.b_fits)
 
 -- it is written where it fits, and nothing where it does not
 pub put_none : {x : List ℕ} {n : Node} → fits x n ≡ false → Put n x x 0

@@ -3,6 +3,8 @@
 use Rattle.std.specs.Prelude.{ℕ, suc, ◌+◌, ◌*◌, Bool, cond, ◌&&◌, List, ◌≡◌, leb, ltb, length}
 use Rattle.semantics.specs.Proposition.{Proposition, signal, name, negated}
 use Rattle.semantics.specs.Formula.{Formula, point, stretch, unit, chop, conjunction, disjunction, slen, scount, at, negation, for_some, at_most, equal, at_least, above}
+use Rattle.rows.specs.declared.count.Comparison as rows
+use Rattle.rows.specs.declared.count.Comparison.TheVariants as compared
 use Rattle.stored.specs.declared.Node.{Node}
 use Rattle.plans.specs.declared.node.Op.{Op}
 use Rattle.plans.specs.declared.node.Op.TheVariants as op
@@ -71,6 +73,13 @@ q_above = 4
 abbrev pub node : ℕ → ℕ → ℕ → ℕ → Node
 node op q a b = record { op = op; q = q; a = a; b = b }
 
+abbrev pub comparison_number : rows.Comparison → ℕ
+comparison_number compared.Below = q_below
+comparison_number compared.AtMost = q_at_most
+comparison_number compared.Equal = q_equal
+comparison_number compared.AtLeast = q_at_least
+comparison_number compared.Above = q_above
+
 -- the node of an op with what it takes
 abbrev pub node_of : Op → Node
 node_of (op.Signal k) = node op_signal 0 k 0
@@ -82,8 +91,8 @@ node_of (op.Unit a) = node op_unit 0 a 0
 node_of (op.Chop a b) = node op_chop 0 a b
 node_of (op.And a b) = node op_and 0 a b
 node_of (op.Or a b) = node op_or 0 a b
-node_of (op.Length c n) = node op_length c 0 n
-node_of (op.Count c a n) = node op_count c a n
+node_of (op.Length c n) = node op_length (comparison_number c) 0 n
+node_of (op.Count c a n) = node op_count (comparison_number c) a n
 node_of (op.Not a) = node op_not 0 a 0
 node_of (op.Column u a) = node op_some 0 a u
 

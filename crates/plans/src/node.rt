@@ -1,14 +1,15 @@
 // One node more of the sheet that is being written.
 ghost use Rattle.std.specs.Prelude.{◌≡◌};
-ghost use Rattle.plans.specs.Plan.{fits, node_of, Put};
+ghost use Rattle.plans.specs.Plan.{fits, comparison_number, node_of, Put};
 
+use rows::count::Comparison;
 use stored::{Node, bytes, layout, ops, writer};
 
 // Document 01's bound on a formula's nodes at its largest.
 pub const MOST_EMITTED: usize = 1025;
 
-// What a formula that is written says of one node: its op, with the signal, the name, the comparison (as `ops` has it), the number or the
-// operands' nodes that it takes.
+// What a formula that is written says of one node: its op, with the signal, the name, the comparison, the number or the operands' nodes
+// that it takes.
 #[derive(Clone, Copy)]
 pub enum Op {
     Signal(usize),
@@ -21,12 +22,25 @@ pub enum Op {
     And(usize, usize),
     Or(usize, usize),
     // The length, compared with a number.
-    Length(usize, usize),
+    Length(Comparison, usize),
     // How often a proposition holds, compared with a number.
-    Count(usize, usize, usize),
+    Count(Comparison, usize, usize),
     Not(usize),
     // Some column for a name.
     Column(usize, usize),
+}
+
+// A comparison as field q has it.
+fn comparison_number(comparison: Comparison) -> usize
+    ensures { result ≡ comparison_number comparison }
+{
+    match comparison {
+        Comparison::Below => ops::BELOW,
+        Comparison::AtMost => ops::AT_MOST,
+        Comparison::Equal => ops::EQUAL,
+        Comparison::AtLeast => ops::AT_LEAST,
+        Comparison::Above => ops::ABOVE,
+    }
 }
 
 impl From<Op> for Node {
@@ -43,8 +57,8 @@ impl From<Op> for Node {
             Op::Chop(a, b) => (ops::CHOP, 0, a, b),
             Op::And(a, b) => (ops::AND, 0, a, b),
             Op::Or(a, b) => (ops::OR, 0, a, b),
-            Op::Length(compared, n) => (ops::SLEN, compared, 0, n),
-            Op::Count(compared, a, n) => (ops::SCOUNT, compared, a, n),
+            Op::Length(c, n) => (ops::SLEN, comparison_number(c), 0, n),
+            Op::Count(c, a, n) => (ops::SCOUNT, comparison_number(c), a, n),
             Op::Not(a) => (ops::NOT, 0, a, 0),
             Op::Column(u, a) => (ops::SOME, 0, a, u),
         };
@@ -62,7 +76,8 @@ fn fits(out: &[u8], x: Node) -> bool
         && writer::count(out) < MOST_EMITTED
 }
 
-// The next node, whatever it is, and its number; where it does not fit nothing is written, and the number is 0.
+// The next node, whatever it is, and its number. Where it does not fit nothing is written and the number is 0, as `Put` has it and no
+// Option: the writers can't fail, and a plan's law shows that its nodes fit.
 pub fn put_node(out: &mut [u8], x: Node) -> usize
     ensures { Put x out.old out.new result }
 {

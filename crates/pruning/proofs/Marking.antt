@@ -1,125 +1,62 @@
 -- Marking from the root down: a marked node marks its operands, which are earlier ones.
-use Rattle.std.proofs.Common.{ℕ, ◌+◌, ◌≤◌, ◌<◌, Bool, true, false, cond, ◌&&◌, List, ◌⊎◌, inl, inr, ◌≡◌, refl, sym, ◌∙◌, ap, subst, true≢false, arith, eqb-true, eq-eqb, ltb-true, ltb-false, lt-ltb, eqb, ltb, length, length-set, set, replicate, get_or, get_or-set_same, get_or-set_other}
-use Rattle.std.proofs.lemmas.Bool.{eqb-false}
-use Rattle.std.proofs.lemmas.List.{length-replicate, get_or-replicate, get_or_past}
-use Rattle.semantics.proofs.Tests.{test, and_left, and_right, and_intro, or_elim, or_left, or_right}
+use Rattle.std.proofs.Common.{ℕ, ◌+◌, ◌≤◌, ◌<◌, Bool, true, false, List, ◌⊎◌, inl, inr, ◌≡◌, subst, arith, length, length-set, set, replicate, get_or}
+use Rattle.std.proofs.lemmas.Grind.{common_steps}
 use Rattle.stored.specs.declared.Node.{Node}
 use Rattle.stored.specs.declared.nodes.Use.{Use}
-use Rattle.stored.specs.Node.{emitted_sorts, is_operand, a_use, b_use, operands_right}
+use Rattle.stored.specs.Node.{emitted_sorts, operands_right}
 use Rattle.stored.specs.Reached.{is_node, has_operand}
 use Rattle.stored.proofs.Ways.{operand_less}
 use Rattle.pruning.specs.Pruned.{Live, marked, marked_node, Parent, MarkedFrom}
-
--- ---- one mark
-module _ (marks : List Bool) (v : ℕ) (inside : v < length marks) where
-  set_live : Live (set marks v true) v
-  set_live = get_or-set_same marks v true false inside
-
-  set_other : (k : ℕ) → (k ≡ v → ⊥) → get_or (set marks v true) k false ≡ get_or marks k false
-  set_other k other = get_or-set_other marks v k true false other
-
-  set_mono : (k : ℕ) → Live marks k → Live (set marks v true) k
-  set_mono k h =
-      elim (test (eqb k v)) [
-        | inl e ↦ subst (Live (set marks v true)) (sym (eqb-true k v e)) set_live
-        | inr e ↦ set_other k (eqb-false k v e) ∙ h
-      ]
-
-  set_back : (k : ℕ) → Live (set marks v true) k → (Live marks k) ⊎ (v ≡ k)
-  set_back k h =
-      elim (test (eqb k v)) [
-        | inl e ↦ inr (sym (eqb-true k v e))
-        | inr e ↦ inl (sym (set_other k (eqb-false k v e)) ∙ h)
-      ]
 
 -- ---- the mark of a field
 module _ (marks : List Bool) (what : Use) (v : ℕ) where
   marked_length : length (marked marks what v) ≡ length marks
   unfolding marked
-  marked_length = go (is_operand what && ltb v (length marks))
-    where
-      go : (b : Bool) → length (cond b (set marks v true) marks) ≡ length marks
-      go true = length-set marks v true
-      go false = refl
+  marked_length = grind (arith, common_steps)
 
   marked_mono : (k : ℕ) → Live marks k → Live (marked marks what v) k
   unfolding marked
-  marked_mono k h = go (is_operand what && ltb v (length marks)) refl
-    where
-      go : (b : Bool) → (is_operand what && ltb v (length marks)) ≡ b → Live (cond b (set marks v true) marks) k
-      go true e = set_mono marks v (ltb-true v (length marks) (and_right (is_operand what) _ e)) k h
-      go false e = h
+  marked_mono k h = grind (arith, common_steps)
 
   marked_new : (k : ℕ) → k < length marks → is_node what v k ≡ true → Live (marked marks what v) k
   unfolding marked is_node
-  marked_new k l e =
-      let is : v ≡ k = eqb-true v k (and_right (is_operand what) _ e) in
-      let inside : v < length marks = omega arith in
-      subst (λ (b : Bool). Live (cond b (set marks v true) marks) k) (sym (and_intro _ _ (and_left (is_operand what) _ e) (lt-ltb v (length marks) inside)))
-      (subst (Live (set marks v true)) is (set_live marks v inside))
+  marked_new k l e = grind (arith, common_steps)
 
   marked_back : (k : ℕ) → Live (marked marks what v) k → (Live marks k) ⊎ (is_node what v k ≡ true)
   unfolding marked is_node
-  marked_back k h = go (is_operand what && ltb v (length marks)) refl h
-    where
-      go : (b : Bool) → (is_operand what && ltb v (length marks)) ≡ b → Live (cond b (set marks v true) marks) k → (Live marks k) ⊎ ((is_operand what && eqb v k) ≡ true)
-      go true e g =
-          elim (set_back marks v (ltb-true v (length marks) (and_right (is_operand what) _ e)) k g) [
-            | inl old ↦ inl old
-            | inr is ↦ inr (and_intro _ _ (and_left (is_operand what) _ e) (eq-eqb v k is))
-          ]
-      go false e g = inl g
+  marked_back k h = grind (arith, common_steps)
 
 -- ---- the marks of a node's operands
 module _ (marks : List Bool) (n : Node) where
   node_length : length (marked_node marks n) ≡ length marks
   unfolding marked_node
-  node_length = marked_length (marked marks (a_use n.op) n.a) (b_use n.op) n.b ∙ marked_length marks (a_use n.op) n.a
+  node_length = grind (arith, marked_length)
 
   node_mono : (k : ℕ) → Live marks k → Live (marked_node marks n) k
   unfolding marked_node
-  node_mono k h = marked_mono (marked marks (a_use n.op) n.a) (b_use n.op) n.b k (marked_mono marks (a_use n.op) n.a k h)
+  node_mono k h = grind (arith, marked_mono)
 
   node_new : (k : ℕ) → k < length marks → has_operand n k ≡ true → Live (marked_node marks n) k
   unfolding marked_node has_operand
-  node_new k l e =
-      let first = marked marks (a_use n.op) n.a in
-      elim (or_elim (is_node (a_use n.op) n.a k) (is_node (b_use n.op) n.b k) e) [
-        | inl h ↦ marked_mono first (b_use n.op) n.b k (marked_new marks (a_use n.op) n.a k l h)
-        | inr h ↦ marked_new first (b_use n.op) n.b k (omega (arith, marked_length marks (a_use n.op) n.a)) h
-      ]
+  node_new k l e = grind (arith, marked_mono, marked_new, marked_length)
 
   node_back : (k : ℕ) → Live (marked_node marks n) k → (Live marks k) ⊎ (has_operand n k ≡ true)
   unfolding marked_node has_operand
-  node_back k h =
-      elim (marked_back (marked marks (a_use n.op) n.a) (b_use n.op) n.b k h) [
-        | inl g ↦ elim (marked_back marks (a_use n.op) n.a k g) [
-          | inl old ↦ inl old
-          | inr new ↦ inr (or_left _ _ new)
-        ]
-        | inr new ↦ inr (or_right (is_node (a_use n.op) n.a k) _ new)
-      ]
+  node_back k h = grind (arith, marked_back)
 
 -- ---- from the root down
 pub none_marked : (n k : ℕ) → get_or (replicate n false) k false ≡ false
-none_marked n k =
-    elim (test (ltb k n)) [
-      | inl e ↦ get_or-replicate n k false false (ltb-true k n e)
-      | inr e ↦ get_or_past (replicate n false) k false (omega (arith, length-replicate {A = Bool} n false, ltb-false k n e))
-    ]
+none_marked n k = grind (arith, common_steps)
 
 pub first_marked : {x : ℕ → Node} {root : ℕ} (marks : List Bool) → root < length marks → ((k : ℕ) → get_or marks k false ≡ false)
     → MarkedFrom x root (root + 1) (set marks root true)
 first_marked {root = root} marks inside none =
     record {
       inside = omega (arith, length-set marks root true);
-      root_live = set_live marks root inside;
+      root_live = grind (arith, common_steps);
       closed = λ p k least most live h. absurd (omega arith);
       parented = λ k live other.
-          elim (set_back marks root inside k live) [
-            | inl old ↦ absurd (true≢false (sym old ∙ none k))
-            | inr is ↦ absurd (other (sym is))
-          ];
+          grind (arith, common_steps, none k);
     }
 
 module _ {x : ℕ → Node} {root i : ℕ} {marks : List Bool} (m : MarkedFrom x root (i + 1) marks) where
@@ -129,31 +66,19 @@ module _ {x : ℕ → Node} {root i : ℕ} {marks : List Bool} (m : MarkedFrom x
       record {
         inside = m.inside;
         root_live = m.root_live;
-        closed = λ p k least most live h.
-            elim (test (eqb p i)) [
-              | inl e ↦ absurd (true≢false (sym live ∙ ap (λ (o : ℕ). get_or marks o false) (eqb-true p i e) ∙ dead))
-              | inr e ↦ let differs = eqb-false p i e in m.closed p k (omega arith) most live h
-            ];
+        closed = λ p k least most live h. grind (arith, m.closed p k);
         parented = m.parented;
       }
 
   module _ (right : (k : ℕ) → k ≤ root → operands_right emitted_sorts x k ≡ true) (most : i ≤ root) (live-i : Live marks i) where
     -- a marked node from i on was marked before
     marked_before : (p : ℕ) → i ≤ p → Live (marked_node marks (x i)) p → Live marks p
-    marked_before p least live =
-        elim (node_back marks (x i) p live) [
-          | inl old ↦ old
-          | inr new ↦ absurd (omega (arith, operand_less emitted_sorts x i p (right i most) new))
-        ]
+    marked_before p least live = let less = operand_less emitted_sorts x i p (right i most) in grind (arith, node_back marks (x i) p live)
 
     turn_closed : (p k : ℕ) → i ≤ p → p ≤ root → Live (marked_node marks (x i)) p → has_operand (x p) k ≡ true → Live (marked_node marks (x i)) k
     turn_closed p k least most live e =
-        elim (test (eqb p i)) [
-          | inl same ↦ node_new marks (x i) k (omega (arith, m.inside, operand_less emitted_sorts x p k (right p most) e))
-              (subst (λ (o : ℕ). has_operand (x o) k ≡ true) (eqb-true p i same) e)
-          | inr other ↦ let differs = eqb-false p i other in
-              node_mono marks (x i) k (m.closed p k (omega arith) most (marked_before p least live) e)
-        ]
+        let less = operand_less emitted_sorts x p k (right p most) e in
+        grind (arith, m.inside, m.closed p k, marked_before p least live, node_new marks (x i) k, node_mono marks (x i) k)
 
     turn_parented : (k : ℕ) → Live (marked_node marks (x i)) k → (k ≡ root → ⊥) → Parent x root (marked_node marks (x i)) k
     turn_parented k live other =

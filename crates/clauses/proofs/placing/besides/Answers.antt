@@ -1,5 +1,5 @@
 -- `clauses::placing::besides` meets its contract.
-use native.Mathlib.Omega.{arith}
+use Rattle.std.proofs.Common.{arith}
 use Rattle.stored.proofs.NameSets.{less_mask}
 use Rattle.clauses.proofs.placing.besides.Goals as goal
 

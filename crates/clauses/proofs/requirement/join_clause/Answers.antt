@@ -1,5 +1,5 @@
 -- `clauses::requirement::join_clause` meets its contract.
-use native.Mathlib.Omega.{arith}
+use Rattle.std.proofs.Common.{arith}
 use Rattle.clauses.specs.Clauses.{passed, joined}
 use Rattle.clauses.proofs.requirement.join_clause.Goals as goal
 

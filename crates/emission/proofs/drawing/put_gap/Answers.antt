@@ -1,20 +1,7 @@
 -- `emission::drawing::put_gap` meets its contract.
-use native.Mathlib.Omega.{arith}
 use Rattle.semantics.specs.Translation.{anywhere, undrawn_gap}
 use Rattle.plans.specs.Plan.{named, everywhere, no_more, pointed, chopped, conjoined}
 use Rattle.emission.proofs.drawing.put_gap.Goals as goal
-
-pub overflow_mul-u : goal.overflow_mul-u
-overflow_mul-u c = omega arith
-
-pub overflow_add-u : goal.overflow_add-u
-overflow_add-u c = omega arith
-
-pub overflow_mul-v : goal.overflow_mul-v
-overflow_mul-v c = omega arith
-
-pub overflow_add-v : goal.overflow_add-v
-overflow_add-v c = omega arith
 
 pub returns : goal.returns
 unfolding undrawn_gap anywhere

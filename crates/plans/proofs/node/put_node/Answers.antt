@@ -1,7 +1,6 @@
 -- `plans::node::put_node` meets its contract.
-use mathlib.Core.Path.{sym, ◌∙◌}
-use native.Mathlib.Omega.{arith}
-use Rattle.plans.proofs.Steps.{fits_open, put_none, put_made}
+use Rattle.std.proofs.Common.{sym, ◌∙◌, arith}
+use Rattle.plans.proofs.Steps.{fits_open, put_made}
 use Rattle.plans.proofs.node.put_node.Goals as goal
 
 pub byte-s-requires : goal.byte-s-requires
