@@ -1,13 +1,8 @@
 -- Laws for the code that writes drafts: an entry more, and the sheet put together from its three pieces.
-use Prim.Native.Nat.{ℕ, ◌+◌, ◌*◌, ◌≤◌, ◌<◌}
-use mathlib.Core.List.{List, ◌++◌, append_assoc}
-use mathlib.Core.Path.{◌≡◌, refl, sym, ◌∙◌, ap, ap₂}
-use native.Mathlib.Numerals.{add-one}
-use native.Mathlib.Omega.{arith}
-use borrow.Author.Tests.{lt-ltb, le-ltb, le-leb, lt-leb}
-use lib.ListN.{length, take, drop}
+use Rattle.std.proofs.Common.{ℕ, ◌+◌, ◌*◌, ◌≤◌, ◌<◌, List, ◌++◌, append_assoc, ◌≡◌, refl, sym, ◌∙◌, ap, ap₂, add-one, arith, lt-ltb, le-ltb, le-leb, length, take, drop, drop-drop, take_at, take_all, length-take-le}
+use borrow.Author.Tests.{lt-leb}
 use borrow.Rule.Slice.PartMut.{put_mid}
-use lib.Seq.{sets, length-sets, sets-eq, paste, take-paste, drop-paste, drop-drop, take_at, take_all, length-take-le}
+use lib.Seq.{sets, length-sets, sets-eq, paste, take-paste, drop-paste}
 use Rattle.std.proofs.lemmas.Slice.{put_mid-paste}
 use Rattle.stored.proofs.Written.{drop_after}
 use Rattle.stored.specs.Written.{header_bytes, put_header}

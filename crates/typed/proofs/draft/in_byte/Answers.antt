@@ -1,6 +1,5 @@
 -- `typed::draft::in_byte` meets its contract.
-use native.Mathlib.Omega.{arith}
-use mathlib.Core.Path.{sym}
+use Rattle.std.proofs.Common.{arith, sym}
 use Rattle.typed.proofs.Writing.{in_byte_lem, in_byte_large}
 use Rattle.typed.proofs.draft.in_byte.Goals as goal
 

@@ -1,5 +1,5 @@
 -- `typed::draft::put` meets its contract.
-use native.Mathlib.Omega.{arith}
+use Rattle.std.proofs.Common.{arith}
 use Rattle.stored.specs.Written.{node_bytes}
 use Rattle.typed.specs.Draft.{put}
 use Rattle.typed.proofs.Writing.{added_there, added_none}
@@ -10,9 +10,6 @@ unfolding put
 returns-then-count-ge-MOST_NODES c =
     let a = c.args in
     added_none 6 64 (node_bytes a.x) a.nodes.now a.count (omega arith)
-
-pub write_node-requires : goal.write_node-requires
-write_node-requires c = let fits = c.requires.2 (omega arith) in (omega arith, fits)
 
 pub returns : goal.returns
 unfolding put
