@@ -1,19 +1,11 @@
 -- The class of a byte: what it says of the byte, and which spellings begin with a byte of it.
-use Prim.Native.Nat.{ℕ, ◌<◌}
-use mathlib.Core.Bool.{Bool, true, false, cond, not, ◌&&◌, true≢false}
-use mathlib.Core.List.{List, [], ◌∷◌}
-use mathlib.Core.Logic.{inl, inr}
-use mathlib.Core.Path.{◌≡◌, refl, sym, ap, ◌∙◌}
-use native.Mathlib.Omega.{arith}
-use borrow.Author.Tests.{eqb-true, eq-eqb, ne_eqb, lt-leb}
-use lib.Dec.{eqb}
-use lib.ListN.{length, get_or}
+use Rattle.std.proofs.Common.{ℕ, ◌<◌, Bool, true, false, cond, not, ◌&&◌, true≢false, List, [], ◌∷◌, inl, inr, ◌≡◌, refl, sym, ap, ◌∙◌, arith, eqb-true, eq-eqb, ne_eqb, eqb, length, get_or, Option, None}
+use borrow.Author.Tests.{lt-leb}
 use Rattle.semantics.proofs.Tests.{test}
 use Rattle.grammar.specs.Brackets.{open_after}
 use Rattle.grammar.specs.Token.{Spelling, spellings, is_blank, is_digit, is_line_end, begins, spelling_of}
 use Rattle.grammar.specs.Class.{letter_class, digit_class, blank_class, bracket_class, joiner_class, line_end_class, is_letter, is_bracket, is_joiner, class_of}
 use Rattle.grammar.proofs.Sorted.{sorting, given}
-use Rattle.std.proofs.Common.{Option, None}
 use Rattle.lexer.specs.declared.spellings.Spelling.{Spelling as Row}
 use Rattle.lexer.specs.Lexed.{meant}
 use Rattle.lexer.specs.Rows.{is_of, starts_as, those, first_row, spelt_by, has_number, all_numbered, Found}

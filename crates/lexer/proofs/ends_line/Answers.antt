@@ -1,9 +1,6 @@
 -- `lexer::ends_line` meets its contract.
-use Prim.Native.Nat.{ℕ, ◌-◌}
-use mathlib.Core.Path.{◌≡◌, sym, ap, ◌∙◌}
-use native.Mathlib.Omega.{arith}
-use lib.Dec.{eqb}
-use lib.ListN.{length, get_or, get_or-eq_default}
+use Rattle.std.proofs.Common.{ℕ, ◌-◌, ◌≡◌, sym, ap, ◌∙◌, arith, eqb, length, get_or}
+use lib.ListN.{get_or-eq_default}
 use Rattle.grammar.specs.Token.{is_line_end}
 use Rattle.grammar.specs.Class.{line_end_class}
 use Rattle.grammar.specs.Spelled.{ends_line}

@@ -1,5 +1,5 @@
 -- `lexer::skip_blanks` meets its contract.
-use Rattle.std.proofs.Common.{◌≡◌, arith, refl, ◌∙◌}
+use Rattle.std.proofs.Common.{arith, ◌∙◌}
 use Rattle.grammar.specs.Token.{is_blank}
 use Rattle.grammar.specs.Class.{blank_class}
 use Rattle.lexer.proofs.Classes.{blank_class_lem, told, untold}
@@ -14,15 +14,7 @@ returns-then-class_of-ne-BLANK c =
       filled = λ _. untold is_blank blank_class blank_class_lem _ _ c.class_of.ensures c.if-class_of-ne-BLANK.true;
     }
 
-pub loop-i-init : goal.loop-i-init
-loop-i-init c = (omega arith, refl)
-
 pub loop-i-preserved : goal.loop-i-preserved
 loop-i-preserved c =
     let at = c.loop-i in
     (omega arith, at.invariant.1 ∙ blank_at _ at.i (omega arith) (told is_blank blank_class blank_class_lem _ _ c.class_of.ensures c.if-class_of-ne-BLANK.false))
-
-pub returns : goal.returns
-returns c =
-    let end : c.max.result ≡ c.loop-i.i = omega arith in
-    record { same = rw end c.loop-i.invariant.1; onward = omega arith; filled = λ h. absurd (omega arith) }
