@@ -66,9 +66,8 @@ pub fn next(text: &[u8], at: usize) -> Lexed
 pub fn ends_line(text: &[u8]) -> bool
     ensures { result ≡ ends_line text.now }
 {
-    let size = text.len();
-    if size == 0 {
-        return false;
+    match text.last() {
+        Some(b) => class_of(*b) == LINE_END,
+        None => false,
     }
-    class_of(text[size - 1]) == LINE_END
 }
