@@ -13,5 +13,5 @@ loop-k-preserved c =
     let at = c.loop-k in
     let args = c.args in (
       length-set at.out (args.at + at.k) _ ∙ at.invariant.0,
-      put_class args.first at.k _ at.invariant.1 c.class_by_rule.ensures,
+      put_class args.first at.k _ at.invariant.1 (c.into.ensures ∙ c.class_by_rule.ensures),
     )
