@@ -14,7 +14,8 @@ ghost use Rattle.lexer.specs.Lexed.{Skipped, Next};
 use crate::lookup::class_of;
 use classes::Class;
 
-// A word, sign or line end by its number; s0 to s15; u0 to u2; a number up to 65,535; anything else; the end of the text.
+// A word, sign or line end by its number, which is the grammar's (`grammar/specs/Token.antt`), whose reader's promises name words and signs
+// so; s0 to s15; u0 to u2; a number up to 65,535; anything else; the end of the text.
 #[derive(Clone, Copy, Debug, PartialEq, Eq)]
 pub enum Token {
     Plain(usize),

@@ -116,7 +116,7 @@ pub fn with_name(names: usize, u: usize) -> usize
 pub fn in_byte(v: usize) -> usize
     ensures { (result ≡ in_byte v) × (result < 256) }
 {
-    if v <= 255 { v } else { 255 }
+    v.min(255)
 }
 
 // The stored sheet of s signals, m names, n nodes and c clauses, at the front of `out`, and its length.
