@@ -1,2 +1,3 @@
--- Laws of classes by their definition.
+-- Laws of classes: by their definition, and of the bytes that stand for them.
 pub mod Listed
+pub mod Marks

@@ -3,32 +3,63 @@
 
 ghost use Rattle.std.specs.Prelude.{◌≡◌};
 ghost use Rattle.grammar.specs.Class.{class_of};
+ghost use Rattle.classes.specs.Mark.{mark_of, marked};
 
-// Each class, by the byte that stands for it in the table.
-pub const LETTER: u8 = b'a';
+#[derive(Clone, Copy, Debug, PartialEq, Eq)]
+pub enum Class {
+    Letter,
+    Digit,
+    Blank,
+    Bracket,
+    Joiner,
+    LineEnd,
+    Other,
+}
 
-pub const DIGIT: u8 = b'0';
+// The byte that stands for a class in the table.
+impl From<Class> for u8 {
+    ghost from_gives = { λ class mark. mark ≡ mark_of class };
 
-pub const BLANK: u8 = b'_';
+    fn from(class: Class) -> u8 {
+        match class {
+            Class::Letter => b'a',
+            Class::Digit => b'0',
+            Class::Blank => b'_',
+            Class::Bracket => b'(',
+            Class::Joiner => b'&',
+            Class::LineEnd => b'$',
+            Class::Other => b'.',
+        }
+    }
+}
 
-pub const BRACKET: u8 = b'(';
+// The class that a byte of the table stands for.
+impl From<u8> for Class {
+    ghost from_gives = { λ mark class. class ≡ marked mark };
 
-pub const JOINER: u8 = b'&';
+    fn from(mark: u8) -> Class {
+        match mark {
+            b'a' => Class::Letter,
+            b'0' => Class::Digit,
+            b'_' => Class::Blank,
+            b'(' => Class::Bracket,
+            b'&' => Class::Joiner,
+            b'$' => Class::LineEnd,
+            _ => Class::Other,
+        }
+    }
+}
 
-pub const LINE_END: u8 = b'$';
-
-pub const OTHER: u8 = b'.';
-
-pub fn class_by_rule(b: u8) -> u8
-    ensures { result ≡ class_of b }
+pub fn class_by_rule(b: u8) -> Class
+    ensures { mark_of result ≡ class_of b }
 {
     match b {
-        b'a'..=b'z' => LETTER,
-        b'0'..=b'9' => DIGIT,
-        b'\t' | b' ' => BLANK,
-        b'(' | b')' | b'[' | b']' | b'{' | b'}' | b'<' | b'>' => BRACKET,
-        b'|' | b'&' | b'^' | b'!' | b'*' | b'=' | b':' | b',' => JOINER,
-        b'\n' => LINE_END,
-        _ => OTHER,
+        b'a'..=b'z' => Class::Letter,
+        b'0'..=b'9' => Class::Digit,
+        b'\t' | b' ' => Class::Blank,
+        b'(' | b')' | b'[' | b']' | b'{' | b'}' | b'<' | b'>' => Class::Bracket,
+        b'|' | b'&' | b'^' | b'!' | b'*' | b'=' | b':' | b',' => Class::Joiner,
+        b'\n' => Class::LineEnd,
+        _ => Class::Other,
     }
 }

@@ -1,10 +1,5 @@
 -- Classes and lines put one after the other.
-use Prim.Native.Nat.{ℕ, zero, suc, ◌+◌, ◌*◌, ◌≤◌}
-use mathlib.Core.List.{List, [], ◌∷◌, ◌++◌, append-nil}
-use mathlib.Core.Path.{◌≡◌, refl, ap, ◌∙◌}
-use native.Mathlib.Numerals.{add-one}
-use native.Mathlib.Omega.{arith}
-use lib.ListN.{length, set, drop, drop_of_length-le, length-append}
+use Rattle.std.proofs.Common.{ℕ, zero, suc, ◌+◌, ◌*◌, ◌≤◌, List, [], ◌∷◌, ◌++◌, append-nil, ◌≡◌, refl, ap, ◌∙◌, add-one, arith, length, set, drop, drop_of_length-le, length-append}
 use lib.Seq.{sets-eq}
 use Rattle.grammar.specs.Class.{bytes_from, bytes_of, class_of, classes_from}
 use Rattle.grammar.proofs.Sorted.{classes_more}

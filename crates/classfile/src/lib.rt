@@ -24,7 +24,7 @@ fn put_classes(out: &mut [u8], at: usize, first: usize) -> usize
     ensures { Put out.old out.new at result (classes_from 16 first) }
 {
     for k in 0..16 {
-        out[at + k] = class_by_rule((first + k) as u8);
+        out[at + k] = class_by_rule((first + k) as u8).into();
     }
     at + 16
 }

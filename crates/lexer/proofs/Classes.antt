@@ -1,19 +1,14 @@
 -- The class of a byte: what it says of the byte, and which spellings begin with a byte of it.
-use Prim.Native.Nat.{ℕ, ◌<◌}
-use mathlib.Core.Bool.{Bool, true, false, cond, not, ◌&&◌, true≢false}
-use mathlib.Core.List.{List, [], ◌∷◌}
-use mathlib.Core.Logic.{inl, inr}
-use mathlib.Core.Path.{◌≡◌, refl, sym, ap, ◌∙◌}
-use native.Mathlib.Omega.{arith}
-use borrow.Author.Tests.{eqb-true, eq-eqb, ne_eqb, lt-leb}
-use lib.Dec.{eqb}
-use lib.ListN.{length, get_or}
+use Rattle.std.proofs.Common.{ℕ, ◌<◌, Bool, true, false, cond, not, ◌&&◌, true≢false, List, [], ◌∷◌, inl, inr, ◌≡◌, refl, sym, ap, ◌∙◌, arith, eqb-true, eq-eqb, ne_eqb, eqb, length, get_or, Option, None}
+use borrow.Author.Tests.{lt-leb}
 use Rattle.semantics.proofs.Tests.{test}
 use Rattle.grammar.specs.Brackets.{open_after}
 use Rattle.grammar.specs.Token.{Spelling, spellings, is_blank, is_digit, is_line_end, begins, spelling_of}
 use Rattle.grammar.specs.Class.{letter_class, digit_class, blank_class, bracket_class, joiner_class, line_end_class, is_letter, is_bracket, is_joiner, class_of}
 use Rattle.grammar.proofs.Sorted.{sorting, given}
-use Rattle.std.proofs.Common.{Option, None}
+use Rattle.classes.specs.declared.Class.{Class}
+use Rattle.classes.specs.Mark.{mark_of}
+use Rattle.classes.proofs.Marks.{same_mark}
 use Rattle.lexer.specs.declared.spellings.Spelling.{Spelling as Row}
 use Rattle.lexer.specs.Lexed.{meant}
 use Rattle.lexer.specs.Rows.{is_of, starts_as, those, first_row, spelt_by, has_number, all_numbered, Found}
@@ -71,12 +66,12 @@ module _ (b : ℕ) where
   line_end_class_lem = either_way (is_line_end b) (class_of b) line_end_class line_end_given not_given.2
 
 -- the class that was asked for a byte, and the test that it stands for
-module _ (q : ℕ → Bool) (c : ℕ) (says : (b : ℕ) → q b ≡ eqb (class_of b) c) (r b : ℕ) (e : r ≡ class_of b) where
+module _ (q : ℕ → Bool) (c : Class) (says : (b : ℕ) → q b ≡ eqb (class_of b) (mark_of c)) (r : Class) (b : ℕ) (e : mark_of r ≡ class_of b) where
   pub told : r ≡ c → q b ≡ true
-  told h = says b ∙ eq-eqb (class_of b) c (sym e ∙ h)
+  told h = says b ∙ eq-eqb (class_of b) (mark_of c) (sym e ∙ ap mark_of h)
 
   pub untold : (r ≡ c → ⊥) → q b ≡ false
-  untold h = says b ∙ ne_eqb (class_of b) c (λ s. h (e ∙ s))
+  untold h = says b ∙ ne_eqb (class_of b) (mark_of c) (λ s. h (same_mark r c (e ∙ s)))
 
 -- a byte that is no bracket opens and closes none
 module _ (b : ℕ) (other : class_of b ≡ bracket_class → ⊥) where
@@ -116,26 +111,22 @@ found_among : (p : ℕ → Bool) (text : List ℕ) (r : Option Row) → 0 < leng
 found_among p [] r long h found = absurd (omega arith)
 found_among p (b ∷ text) r long h found = rw (← those_found p b text h spellings) found
 
-unfoldable is_none : ℕ → Bool
-is_none b = not (is_of letter_class b) && not (is_of bracket_class b) && not (is_of joiner_class b) && not (is_of line_end_class b)
+-- a class whose bytes begin no spelling
+unfoldable pub begins_none : ℕ → Bool
+begins_none k = not (eqb k letter_class) && not (eqb k bracket_class) && not (eqb k joiner_class) && not (eqb k line_end_class)
 
-none_such : those is_none spellings ≡ []
-unfolding choosing is_none
+none_such : those (λ b. begins_none (class_of b)) spellings ≡ []
+unfolding choosing begins_none
 none_such = refl
 
-module _ (text : List ℕ) (class : ℕ) (long : 0 < length text) (e : class ≡ class_of (get_or text 0 0)) where
+module _ (text : List ℕ) (class : Class) (long : 0 < length text) (e : mark_of class ≡ class_of (get_or text 0 0)) where
   -- the rows of this class are the spellings that begin with a byte of it
-  pub found_of : (c : ℕ) (rows : List Row) (r : Option Row) → class ≡ c → r ≡ first_row rows text → spelt_by rows ≡ those (is_of c) spellings
+  pub found_of : (c : Class) (rows : List Row) (r : Option Row) → class ≡ c → r ≡ first_row rows text → spelt_by rows ≡ those (is_of (mark_of c)) spellings
       → all_numbered rows ≡ true → Found spellings text r
   unfolding is_of
   found_of c rows r h first all numbered =
-      found_among (is_of c) text r long (eq-eqb (class_of (get_or text 0 0)) c (sym e ∙ h)) (rw (first, ← all) (first_row_found rows text numbered))
+      found_among (is_of (mark_of c)) text r long (eq-eqb (class_of (get_or text 0 0)) (mark_of c) (sym e ∙ ap mark_of h)) (rw (first, ← all) (first_row_found rows text numbered))
 
-  -- a byte of another class begins nothing
-  pub none_of : (class ≡ letter_class → ⊥) → (class ≡ bracket_class → ⊥) → (class ≡ joiner_class → ⊥) → (class ≡ line_end_class → ⊥)
-      → Found spellings text None
-  unfolding spelling_of is_of is_none
-  none_of letter bracket joiner end =
-      found_among is_none text None long
-      (rw (← e, ne_eqb class letter_class letter, ne_eqb class bracket_class bracket, ne_eqb class joiner_class joiner, ne_eqb class line_end_class end))
-      (rw none_such refl)
+  pub none_of : begins_none (mark_of class) ≡ true → Found spellings text None
+  unfolding spelling_of
+  none_of h = found_among (λ b. begins_none (class_of b)) text None long (rw (← e) h) (rw none_such refl)

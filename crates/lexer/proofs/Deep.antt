@@ -1,13 +1,5 @@
 -- How deep brackets go, byte by byte.
-use Prim.Native.Nat.{ℕ, suc, ◌+◌, ◌≤◌, ◌<◌}
-use mathlib.Core.Bool.{true, false, ◌||◌}
-use mathlib.Core.List.{List, ◌∷◌}
-use mathlib.Core.Path.{◌≡◌, refl}
-use native.Mathlib.Numerals.{add-one}
-use borrow.Author.Tests.{lt-ltb, le-ltb}
-use lib.Dec.{ltb}
-use lib.ListN.{length, get_or, drop, drop_of_length-le}
-use lib.Seq.{drop-cons}
+use Rattle.std.proofs.Common.{ℕ, suc, ◌+◌, ◌≤◌, ◌<◌, true, false, ◌||◌, List, ◌∷◌, ◌≡◌, refl, add-one, lt-ltb, le-ltb, ltb, length, get_or, drop, drop_of_length-le, drop-cons}
 use Rattle.grammar.specs.Brackets.{open_after, deeper}
 
 deep_step : (n b : ℕ) (text : List ℕ) → deeper 32 n (b ∷ text) ≡ ltb 32 (open_after n b) || deeper 32 (open_after n b) text

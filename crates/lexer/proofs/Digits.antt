@@ -1,16 +1,7 @@
 -- The number that digits stand for, read one digit at a time and capped.
-use Prim.Native.Nat.{ℕ, suc, ◌+◌, ◌-◌, ◌*◌, ◌≤◌, ◌<◌}
-use mathlib.Core.Bool.{Bool, true, false, cond}
-use mathlib.Core.List.{List, [], ◌∷◌}
-use mathlib.Core.Path.{◌≡◌, refl}
-use native.Mathlib.Numerals.{add-one}
-use native.Mathlib.Omega.{arith}
-use borrow.Author.Tests.{leb-true, leb-false, lt-leb, ne_eqb}
-use lib.Dec.{leb}
-use lib.ListN.{length, get_or, drop, drop_of_length-le}
-use lib.Seq.{drop-cons}
+use Rattle.std.proofs.Common.{ℕ, suc, ◌+◌, ◌-◌, ◌*◌, ◌≤◌, ◌<◌, Bool, true, false, cond, List, [], ◌∷◌, ◌≡◌, refl, add-one, arith, leb-true, leb-false, ne_eqb, leb, length, get_or, drop, drop_of_length-le, drop-cons, Option, Some, None}
+use borrow.Author.Tests.{lt-leb}
 use Rattle.semantics.proofs.Tests.{and_left, and_right}
-use Rattle.std.proofs.Common.{Option, Some, None}
 use Rattle.grammar.specs.Token.{Token, outside, is_blank, is_digit, digits, number_from, numbered}
 use Rattle.lexer.specs.Lexed.{with_digit, told, Small}
 

@@ -1,12 +1,5 @@
 -- A token read at a place, and blanks before it.
-use Prim.Native.Nat.{ℕ, suc, ◌+◌, ◌-◌, ◌≤◌, ◌<◌}
-use mathlib.Core.Bool.{true, false, true≢false}
-use mathlib.Core.List.{List, [], ◌∷◌}
-use mathlib.Core.Path.{◌≡◌, refl, sym, ap, ◌∙◌}
-use native.Mathlib.Omega.{arith}
-use borrow.Author.Tests.{le-leb}
-use lib.ListN.{length, get_or, take, drop, length-drop, drop_of_length-le}
-use lib.Seq.{drop-cons, take_all, get_or-drop}
+use Rattle.std.proofs.Common.{ℕ, suc, ◌+◌, ◌-◌, ◌≤◌, ◌<◌, true, false, true≢false, List, [], ◌∷◌, ◌≡◌, refl, sym, ap, ◌∙◌, arith, le-leb, length, get_or, take, drop, length-drop, drop_of_length-le, drop-cons, take_all, get_or-drop, Option, Some, None}
 use Rattle.grammar.specs.Token.{Token, Spelling, spelling_of, spellings, is_blank, is_digit, numbered, tokens, tokens_past}
 use Rattle.grammar.specs.Class.{class_of}
 use Rattle.lexer.specs.declared.Lexed.{Lexed}
@@ -16,7 +9,6 @@ use Rattle.lexer.specs.Lexed.{meant, is_end, leads, Bounded, Means, Skipped, Mun
 use Rattle.lexer.specs.declared.numbers.Numeral.{Numeral}
 use Rattle.lexer.specs.declared.spellings.Spelling.{Spelling as Row}
 use Rattle.lexer.specs.Rows.{Found}
-use Rattle.std.proofs.Common.{Option, Some, None}
 use Rattle.lexer.proofs.Digits.{digits_more}
 use Rattle.lexer.proofs.Tokens.{all_spelt, spelling_long, spelling_fits, number_at, spelling_at}
 

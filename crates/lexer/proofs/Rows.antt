@@ -1,7 +1,5 @@
 -- The tables of spellings: their rows are the grammar's, and the first row that a text begins with is its spelling.
-use Rattle.std.proofs.Common.{◌≡◌, ℕ, Bool, true, false, cond, ◌&&◌, List, [], ◌∷◌, Some, refl, ap}
-use borrow.Author.Tests.{leb-true, ltb-true}
-use lib.Dec.{eqb}
+use Rattle.std.proofs.Common.{◌≡◌, ℕ, Bool, true, false, cond, ◌&&◌, List, [], ◌∷◌, Some, refl, ap, leb-true, ltb-true, eqb}
 use Rattle.std.specs.List.{starts_with}
 use Rattle.semantics.proofs.Tests.{and_left, and_right}
 use Rattle.grammar.specs.Token.{spelt, begins, spelling_of}

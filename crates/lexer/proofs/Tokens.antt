@@ -1,14 +1,5 @@
 -- The tokens of a text from a place on: a blank passed over, a number, a word or sign.
-use Prim.Native.Nat.{ℕ, zero, suc, ◌+◌, ◌-◌, ◌≤◌, ◌<◌}
-use mathlib.Core.Bool.{Bool, true, false, cond, ◌&&◌, true≢false}
-use mathlib.Core.List.{List, [], ◌∷◌}
-use mathlib.Core.Path.{◌≡◌, refl, sym, ap, ◌∙◌}
-use native.Mathlib.Numerals.{add-one}
-use native.Mathlib.Omega.{arith}
-use borrow.Author.Tests.{ltb-true}
-use lib.Dec.{ltb, eqb}
-use lib.ListN.{length, get_or, drop}
-use lib.Seq.{drop-cons, drop-drop}
+use Rattle.std.proofs.Common.{ℕ, zero, suc, ◌+◌, ◌-◌, ◌≤◌, ◌<◌, Bool, true, false, cond, ◌&&◌, true≢false, List, [], ◌∷◌, ◌≡◌, refl, sym, ap, ◌∙◌, add-one, arith, ltb-true, ltb, eqb, length, get_or, drop, drop-cons, drop-drop}
 use Rattle.semantics.proofs.Tests.{and_left, and_right}
 use Rattle.lexer.proofs.Digits.{digit_no_blank}
 use Rattle.grammar.specs.Token.{Token, Spelling, spellings, is_blank, is_digit, begins, spelling_of, digits, number_from, numbered, tokens_past, tokens}

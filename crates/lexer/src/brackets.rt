@@ -3,14 +3,14 @@ ghost use Rattle.std.specs.Prelude.{◌≡◌, ◌≤◌};
 ghost use Rattle.grammar.specs.Brackets.{open_after, too_deep};
 
 use crate::lookup::class_of;
-use classes::BRACKET;
+use classes::Class;
 
 // How many brackets are open after byte b.
 fn open_after(depth: usize, b: u8) -> usize
     requires { depth ≤ 32 }
     ensures { result ≡ open_after depth b }
 {
-    if class_of(b) != BRACKET {
+    if class_of(b) != Class::Bracket {
         return depth;
     }
     match b {

@@ -12,9 +12,10 @@ ghost use Rattle.grammar.specs.Spelled.{ends_line};
 ghost use Rattle.lexer.specs.Lexed.{Skipped, Next};
 
 use crate::lookup::class_of;
-use classes::{BLANK, DIGIT, LINE_END};
+use classes::Class;
 
-// A word, sign or line end by its number; s0 to s15; u0 to u2; a number up to 65,535; anything else; the end of the text.
+// A word, sign or line end by its number, which is the grammar's (`grammar/specs/Token.antt`), whose reader's promises name words and signs
+// so; s0 to s15; u0 to u2; a number up to 65,535; anything else; the end of the text.
 #[derive(Clone, Copy, Debug, PartialEq, Eq)]
 pub enum Token {
     Plain(usize),
@@ -37,7 +38,7 @@ fn skip_blanks(text: &[u8], at: usize) -> usize
     ensures { Skipped text.now at result }
 {
     for i in at..text.len() {
-        if class_of(text[i]) != BLANK {
+        if class_of(text[i]) != Class::Blank {
             return i;
         }
     }
@@ -56,19 +57,18 @@ pub fn next(text: &[u8], at: usize) -> Lexed
         };
     }
     let class = class_of(text[start]);
-    if class == DIGIT {
-        return numbers::number_at(text, start);
+    match class {
+        Class::Digit => numbers::number_at(text, start),
+        _ => spellings::spelling_at(text, start, class),
     }
-    spellings::spelling_at(text, start, class)
 }
 
 // Whether the last byte is a line end.
 pub fn ends_line(text: &[u8]) -> bool
     ensures { result ≡ ends_line text.now }
 {
-    let size = text.len();
-    if size == 0 {
-        return false;
+    match text.last() {
+        Some(b) => class_of(*b) == Class::LineEnd,
+        None => false,
     }
-    class_of(text[size - 1]) == LINE_END
 }

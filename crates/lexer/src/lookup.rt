@@ -1,8 +1,10 @@
 // What the lexer asks of a byte: its class, by the table.
 ghost use Rattle.std.specs.Prelude.{◌≡◌};
 ghost use Rattle.grammar.specs.Class.{class_of, class_table};
+ghost use Rattle.classes.specs.Mark.{mark_of};
 
 use crate::table::CLASSES;
+use classes::Class;
 
 // The whole table.
 pub fn class_table() -> [u8; 256]
@@ -12,8 +14,8 @@ pub fn class_table() -> [u8; 256]
 }
 
 // The class of a byte.
-pub fn class_of(b: u8) -> u8
-    ensures { result ≡ class_of b }
+pub fn class_of(b: u8) -> Class
+    ensures { mark_of result ≡ class_of b }
 {
-    CLASSES[b as usize]
+    CLASSES[b as usize].into()
 }

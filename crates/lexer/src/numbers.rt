@@ -5,7 +5,7 @@ ghost use Rattle.lexer.specs.Lexed.{with_digit, Small, Munched, Next, Means};
 
 use crate::lookup::class_of;
 use crate::{Lexed, Token};
-use classes::DIGIT;
+use classes::Class;
 
 // The number that digits stand for, none where it is more than 65,535, and the place after them.
 #[derive(Clone, Copy, Debug, PartialEq, Eq)]
@@ -31,7 +31,7 @@ fn munch(text: &[u8], at: usize) -> Numeral
     let mut value = Some(0);
     for i in at..text.len() {
         let b = text[i];
-        if class_of(b) != DIGIT {
+        if class_of(b) != Class::Digit {
             return Numeral { value, at: i };
         }
         value = with_digit(value, b);

@@ -1,12 +1,13 @@
 // Words and signs by tables of their spellings, one for each class of first bytes.
 ghost use Rattle.std.specs.Prelude.{false, ◌≡◌, ◌<◌, length, get_or};
 ghost use Rattle.grammar.specs.Class.{class_of};
+ghost use Rattle.classes.specs.Mark.{mark_of};
 ghost use Rattle.grammar.specs.Token.{is_blank, is_digit, spellings};
 ghost use Rattle.lexer.specs.Rows.{lent, first_row, Found};
 ghost use Rattle.lexer.specs.Lexed.{Next};
 
 use crate::{Lexed, Token};
-use classes::{BRACKET, JOINER, LETTER, LINE_END};
+use classes::Class;
 
 // A word or sign, and its token.
 #[derive(Clone, Copy, Debug)]
@@ -89,22 +90,22 @@ fn find(rows: &'static [Spelling], text: &[u8]) -> Option<&'static Spelling>
 }
 
 // The word or sign that the text begins with, whose first byte has this class: the class decides which rows are looked through.
-fn word_or_sign(text: &[u8], class: u8) -> Option<&'static Spelling>
-    requires { (0 < length text.now) × (class ≡ class_of (get_or text.now 0 0)) }
+fn word_or_sign(text: &[u8], class: Class) -> Option<&'static Spelling>
+    requires { (0 < length text.now) × (mark_of class ≡ class_of (get_or text.now 0 0)) }
     ensures { Found spellings text.now (lent result) }
 {
     match class {
-        LETTER => find(&WORDS, text),
-        BRACKET => find(&BRACKETS, text),
-        JOINER => find(&JOINERS, text),
-        LINE_END => find(&LINE_ENDS, text),
-        _ => None,
+        Class::Letter => find(&WORDS, text),
+        Class::Bracket => find(&BRACKETS, text),
+        Class::Joiner => find(&JOINERS, text),
+        Class::LineEnd => find(&LINE_ENDS, text),
+        Class::Digit | Class::Blank | Class::Other => None,
     }
 }
 
 // The token that starts with the byte at `at`, of this class, which is neither a blank nor a digit.
-pub fn spelling_at(text: &[u8], at: usize, class: u8) -> Lexed
-    requires { (at < length text.now) × (class ≡ class_of (get_or text.now at 0)) × (is_blank (get_or text.now at 0) ≡ false) × (is_digit (get_or text.now at 0) ≡ false) }
+pub fn spelling_at(text: &[u8], at: usize, class: Class) -> Lexed
+    requires { (at < length text.now) × (mark_of class ≡ class_of (get_or text.now at 0)) × (is_blank (get_or text.now at 0) ≡ false) × (is_digit (get_or text.now at 0) ≡ false) }
     ensures { Next text.now at result }
 {
     match word_or_sign(&text[at..], class) {

@@ -1,13 +1,6 @@
 -- A list filled from the front with f 0, f 1, ..
-use Prim.Native.Nat.{ℕ, ◌+◌, ◌≤◌, ◌<◌}
-use mathlib.Core.List.{List}
-use mathlib.Core.Logic.{inl, inr}
-use mathlib.Core.Path.{◌≡◌, sym, ◌∙◌, subst}
-use native.Mathlib.Omega.{arith}
-use borrow.Author.Tests.{eqb-true, eqb-false}
-use lib.Dec.{eqb}
-use lib.ListN.{length, get_or, set}
-use lib.Seq.{get_or-set_same, get_or-set_other, ext_get_or}
+use Rattle.std.proofs.Common.{ℕ, ◌+◌, ◌≤◌, ◌<◌, List, inl, inr, ◌≡◌, sym, ◌∙◌, subst, arith, eqb-true, eqb, length, get_or, set, get_or-set_same, get_or-set_other, ext_get_or}
+use borrow.Author.Tests.{eqb-false}
 use Rattle.semantics.proofs.Tests.{test}
 use Rattle.stored.specs.Bytes.{in_order}
 use Rattle.stored.proofs.Rules.{length_in_order, get_or_in_order}

@@ -1,15 +1,8 @@
 -- Laws of texts that are put into bytes: decimal digits, words, lines.
-use Prim.Native.Nat.{ℕ, zero, suc, ◌+◌, ◌*◌, ◌/◌, ◌%◌, ◌≤◌, ◌<◌}
-use mathlib.Core.Bool.{Bool, true, false}
-use mathlib.Core.List.{List, [], ◌∷◌, ◌++◌, append_assoc, append-nil}
-use mathlib.Core.Logic.{inl, inr}
-use mathlib.Core.Path.{◌≡◌, refl, sym, ◌∙◌, ap, ap₂, subst}
-use native.Mathlib.Omega.{arith}
-use borrow.Author.Tests.{lt-ltb, le-ltb, ltb-true, ltb-false}
-use lib.Dec.{ltb}
-use lib.ListN.{length, get_or, set, take, drop, replicate, length-append, length-replicate, get_or-replicate, get_or-eq_default, take-append-drop}
+use Rattle.std.proofs.Common.{ℕ, zero, suc, ◌+◌, ◌*◌, ◌/◌, ◌%◌, ◌≤◌, ◌<◌, Bool, true, false, List, [], ◌∷◌, ◌++◌, append_assoc, append-nil, inl, inr, ◌≡◌, refl, sym, ◌∙◌, ap, ap₂, subst, arith, lt-ltb, le-ltb, ltb-true, ltb-false, ltb, length, get_or, set, take, drop, replicate, length-append, take-append-drop, take_all, take-suc, get_or-drop}
+use lib.ListN.{length-replicate, get_or-replicate, get_or-eq_default}
 use borrow.Rule.Slice.PartMut.{put_mid}
-use lib.Seq.{sets, length-sets, sets-eq, take_all, take-suc, get_or-drop}
+use lib.Seq.{sets, length-sets, sets-eq}
 use Rattle.std.proofs.lemmas.Slice.{put_mid-paste}
 use Rattle.semantics.proofs.Tests.{test}
 use Rattle.stored.specs.Tree.{pick}
@@ -176,19 +169,6 @@ number_room word numbers t size h fits =
 pub newline_room : (word numbers : List ℕ) (t size : ℕ) → length (line_with word numbers) ≤ size → length word + length (spaced (take t numbers)) < size
 newline_room word numbers t size fits = omega (arith, line_length word numbers, spaced_room numbers t)
 
-pub put_number : {x y z : List ℕ} {at r e : ℕ} (numbers : List ℕ) (t : ℕ) → t < length numbers → Put x y at r (spaced (take t numbers))
-    → Put (set y r 32) z (r + 1) e (decimal_of (get_or numbers t 0)) → Put x z at e (spaced (take (t + 1) numbers))
-put_number {x} {y} {z} {at} {r} {e} numbers t h p q =
-    subst (λ (l : List ℕ). Put x z at e l) (spaced_more numbers t h)
-    (put_then p (put_then {a = 32 ∷ []} (record { bytes = refl; end = refl }) q))
-
-pub put_line_lem : {x y z : List ℕ} {w r t : ℕ} (word numbers : List ℕ) → Put x y 0 w word → Put y z w r (spaced (take t numbers)) → length numbers ≤ t
-    → Put x (set z r 10) 0 (r + 1) (line_with word numbers)
-unfolding line_with
-put_line_lem {x} {y} {z} {w} {r} {t} word numbers p q all =
-    let whole = subst (λ (l : List ℕ). Put y z w r (spaced l)) (take_all t numbers all) q in
-    put_then (put_then p whole) (record { bytes = refl; end = refl })
-
 -- a number below 1,000 takes four bytes at most
 spaced_cons : (n : ℕ) (numbers : List ℕ) → n < 1000 → length (spaced (n ∷ numbers)) ≤ 4 + length (spaced numbers)
 unfolding spaced
@@ -211,3 +191,36 @@ line_fits word numbers size h = omega (arith, line_most word numbers h.1, h.0)
 pub refused_length : (number : ℕ) → number < 1000 → length (refused_text number) ≤ 24
 unfolding refused_text
 refused_length number h = omega (arith, line_most refused_word (number ∷ []) (h, omega arith))
+
+-- the line so far, from the front of x on: its word and t of its numbers
+module _ {x y : List ℕ} {r : ℕ} (word numbers : List ℕ) (t : ℕ) (put : Put x y 0 r (word ++ spaced (take t numbers))) where
+  module _ (pre : (length word + 4 * length numbers < length x) × ThreeDigits numbers) where
+    pub number_fits : t < length numbers → r + 1 + length (decimal_of (get_or numbers t 0)) < length y
+    number_fits h =
+        omega (
+          arith,
+          put.end,
+          put_size put,
+          length-append word (spaced (take t numbers)),
+          number_room word numbers t (length x) h (line_fits word numbers (length x) pre),
+        )
+
+    pub newline_fits : r < length y
+    newline_fits =
+        omega (
+          arith,
+          put.end,
+          put_size put,
+          length-append word (spaced (take t numbers)),
+          newline_room word numbers t (length x) (line_fits word numbers (length x) pre),
+        )
+
+  pub put_number : {z : List ℕ} {e : ℕ} → t < length numbers → Put (set y r 32) z (r + 1) e (decimal_of (get_or numbers t 0))
+      → Put x z 0 e (word ++ spaced (take (t + 1) numbers))
+  put_number h next =
+      let more = put_then put (put_then {a = 32 ∷ []} (record { bytes = refl; end = refl }) next) in
+      rw (← spaced_more numbers t h, ← append_assoc word (spaced (take t numbers))) more
+
+  pub put_newline : length numbers ≤ t → Put x (set y r 10) 0 (r + 1) (line_with word numbers)
+  unfolding line_with
+  put_newline all = put_then (rw (take_all t numbers all) at put) (record { bytes = refl; end = refl })

@@ -15,6 +15,7 @@ pub fn read_full<R: Read>(reader: &mut R, out: &mut [u8]) -> Result<usize>
     ensures err { IfErr result (λ _. (n : ℕ) × (n ≤ length out.new)
         × Consumes (R.remaining reader.old) (R.remaining reader.new) (take n out.new)) }
 {
+    // `read_exact` gives no count where the input ends early, and `read_to_end` wants a heap.
     let mut done = 0;
     while done < out.len() {
         let n = reader.read(&mut out[done..])?;

@@ -1,12 +1,7 @@
 -- A line's clause, read back, is what the line says.
-use Prim.Native.Nat.{ℕ, zero, suc, ◌+◌, ◌≤◌, ◌<◌}
-use mathlib.Core.Bool.{Bool, true, false, ◌&&◌, ◌||◌}
-use mathlib.Core.List.{List, [], ◌∷◌, ◌++◌, map}
-use mathlib.Core.Path.{◌≡◌, refl, sym, ◌∙◌, ap, ap₂, fun_ext}
-use native.Mathlib.Omega.{arith}
-use borrow.Author.Tests.{ltb-true}
-use lib.Dec.{ltb, eqb, eqb-suc-suc}
-use lib.ListN.{length, get_or}
+use Rattle.std.proofs.Common.{ℕ, zero, suc, ◌+◌, ◌≤◌, ◌<◌, Bool, true, false, ◌&&◌, ◌||◌, List, [], ◌∷◌, ◌++◌, map, ◌≡◌, refl, sym, ◌∙◌, ap, ap₂, arith, ltb-true, ltb, eqb, length, get_or}
+use mathlib.Core.Path.{fun_ext}
+use lib.Dec.{eqb-suc-suc}
 use Rattle.semantics.specs.Proposition.{bit}
 use Rattle.semantics.specs.Formula.{Formula}
 use Rattle.semantics.specs.Placement.{Names}

@@ -1,7 +1,5 @@
 -- Sheets as they are typed and as they are stored; the first is document 01's example input.
-use Prim.Native.Nat.{ℕ}
-use mathlib.Core.List.{List, [], ◌∷◌}
-use mathlib.Core.Path.{◌≡◌, refl}
+use Rattle.std.proofs.Common.{ℕ, List, [], ◌∷◌, ◌≡◌, refl}
 use Rattle.semantics.specs.Formula.{at_most}
 use Rattle.stored.specs.Reach.{joint, name_mask}
 use Rattle.stored.specs.Written.{node_bytes, header_bytes}

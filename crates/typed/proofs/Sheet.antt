@@ -1,14 +1,8 @@
 -- The stored sheet that a typed sheet is, read back: its header, its clauses and its verdicts are what the typed sheet says.
-use Prim.Native.Nat.{ℕ, suc, ◌+◌, ◌-◌, ◌*◌, ◌≤◌, ◌<◌}
-use mathlib.Core.Bool.{Bool, true≢false, true, false, not, cond, ◌&&◌, ◌||◌}
-use mathlib.Core.List.{List, [], ◌∷◌}
-use mathlib.Core.Path.{◌≡◌, refl, sym, ◌∙◌, ap, ap₂, fun_ext}
-use native.Mathlib.Nat.{zero-add}
-use native.Mathlib.Omega.{arith}
-use borrow.Author.Tests.{ltb-false, leb-false, le-leb, lt-leb, eq-eqb}
-use lib.Dec.{leb, ltb}
-use lib.ListN.{length, take, drop, length-append, length-replicate}
-use lib.Seq.{drop-drop, length-take-le, get_or-take, take_at, drop_at, take_all}
+use Rattle.std.proofs.Common.{ℕ, suc, ◌+◌, ◌-◌, ◌*◌, ◌≤◌, ◌<◌, Bool, true≢false, true, false, not, cond, ◌&&◌, ◌||◌, List, [], ◌∷◌, ◌≡◌, refl, sym, ◌∙◌, ap, ap₂, zero-add, arith, ltb-false, leb-false, le-leb, eq-eqb, leb, ltb, length, take, drop, length-append, drop-drop, length-take-le, get_or-take, take_at, drop_at, take_all}
+use mathlib.Core.Path.{fun_ext}
+use borrow.Author.Tests.{lt-leb}
+use lib.ListN.{length-replicate}
 use Rattle.semantics.specs.Proposition.{Trace}
 use Rattle.semantics.specs.Clause.{Part, Role, assumption_role, commitment, Clause, breaks_at, breaks, fails}
 use Rattle.semantics.specs.Cycles.{some_below}

@@ -1,12 +1,6 @@
 -- The last node that a tree's nodes end in, read back, is what the tree says.
-use Prim.Native.Nat.{ℕ, suc, ◌+◌, ◌*◌, ◌/◌, ◌%◌, ◌≤◌, ◌<◌}
-use mathlib.Core.Bool.{Bool, true, false, cond, ◌&&◌}
-use mathlib.Core.List.{[], ◌∷◌}
-use mathlib.Core.Path.{◌≡◌, refl, sym, ◌∙◌, ap, ap₂}
-use native.Mathlib.Omega.{arith}
-use borrow.Author.Tests.{ltb-true, leb-false}
-use lib.Dec.{leb, ltb}
-use lib.ListN.{length, get_or-eq_default}
+use Rattle.std.proofs.Common.{ℕ, suc, ◌+◌, ◌*◌, ◌/◌, ◌%◌, ◌≤◌, ◌<◌, Bool, true, false, cond, ◌&&◌, [], ◌∷◌, ◌≡◌, refl, sym, ◌∙◌, ap, ap₂, arith, ltb-true, leb-false, leb, ltb, length}
+use lib.ListN.{get_or-eq_default}
 use Rattle.semantics.specs.Proposition.{Proposition, never, negated, both_of, either_of}
 use Rattle.semantics.specs.Formula.{Comparison, below, at_most, equal, at_least, above, Symbol, low, high, either, low_stretch, high_stretch, either_stretch, steady, Formula, point, stretch, whole, unit, chop, conjunction, disjunction, star, slen, scount, sdur, drawn, gap}
 use Rattle.semantics.proofs.Tests.{and_left, and_right}

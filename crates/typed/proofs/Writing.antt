@@ -1,13 +1,7 @@
 -- Laws for the code that writes drafts: an entry more, and the sheet put together from its three pieces.
-use Prim.Native.Nat.{ℕ, ◌+◌, ◌*◌, ◌≤◌, ◌<◌}
-use mathlib.Core.List.{List, ◌++◌, append_assoc}
-use mathlib.Core.Path.{◌≡◌, refl, sym, ◌∙◌, ap, ap₂}
-use native.Mathlib.Numerals.{add-one}
-use native.Mathlib.Omega.{arith}
-use borrow.Author.Tests.{lt-ltb, le-ltb, le-leb, lt-leb}
-use lib.ListN.{length, take, drop}
+use Rattle.std.proofs.Common.{ℕ, ◌+◌, ◌*◌, ◌≤◌, ◌<◌, List, ◌++◌, append_assoc, ◌≡◌, refl, sym, ◌∙◌, ap, ap₂, add-one, arith, lt-ltb, le-ltb, length, take, drop, drop-drop, take_at, take_all, length-take-le}
 use borrow.Rule.Slice.PartMut.{put_mid}
-use lib.Seq.{sets, length-sets, sets-eq, paste, take-paste, drop-paste, drop-drop, take_at, take_all, length-take-le}
+use lib.Seq.{sets, length-sets, sets-eq, paste, take-paste, drop-paste}
 use Rattle.std.proofs.lemmas.Slice.{put_mid-paste}
 use Rattle.stored.proofs.Written.{drop_after}
 use Rattle.stored.specs.Written.{header_bytes, put_header}
@@ -38,15 +32,6 @@ put_first x y s at k n same long fits =
     let size : length (take n s) ≡ n = length-take-le n s fits in
     put_mid-paste at k x y (take n s) n same long (sym size)
     ∙ ap (λ (l : List ℕ). take at x ++ l ++ drop (at + n) x) (take_all n (take n s) (omega arith))
-
--- a number of one byte
-pub in_byte_lem : (v : ℕ) → v ≤ 255 → in_byte v ≡ v
-unfolding in_byte
-in_byte_lem v h = rw (le-leb v 255 h)
-
-pub in_byte_large : (v : ℕ) → 255 < v → in_byte v ≡ 255
-unfolding in_byte
-in_byte_large v h = rw (lt-leb v 255 h)
 
 -- the header, the nodes and the clauses, one after another
 module _ (out nodes clauses : List ℕ) (s m n c : ℕ) (room : clauses_end n c ≤ length out) (p : node_size * n ≤ length nodes)

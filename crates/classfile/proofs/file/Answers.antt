@@ -1,6 +1,5 @@
 -- `classfile::file` meets its contract.
-use mathlib.Core.Path.{◌≡◌, refl, ◌∙◌}
-use native.Mathlib.Omega.{arith}
+use Rattle.std.proofs.Common.{◌≡◌, refl, ◌∙◌, arith}
 use Rattle.grammar.specs.Class.{bytes_from, bytes_of}
 use Rattle.lines.proofs.Texts.{put_then, put_size}
 use Rattle.classfile.specs.File.{opening, closing, first_lines, table_file}

@@ -1,5 +1,5 @@
 -- `classfile::put_classes` meets its contract.
-use Rattle.std.proofs.Common.{◌≡◌, ◌+◌, ◌∙◌, arith, refl, length-set}
+use Rattle.std.proofs.Common.{◌+◌, ◌∙◌, refl, length-set}
 use Rattle.grammar.specs.Class.{classes_from}
 use Rattle.classfile.proofs.Lines.{put_class}
 use Rattle.classfile.proofs.put_classes.Goals as goal
@@ -13,11 +13,5 @@ loop-k-preserved c =
     let at = c.loop-k in
     let args = c.args in (
       length-set at.out (args.at + at.k) _ ∙ at.invariant.0,
-      put_class args.first at.k _ at.invariant.1 c.class_by_rule.ensures,
+      put_class args.first at.k _ at.invariant.1 (c.into.ensures ∙ c.class_by_rule.ensures),
     )
-
-pub returns : goal.returns
-returns c =
-    let at = c.loop-k in
-    let all : at.k ≡ 16 = omega arith in
-    rw all at at.invariant.1

@@ -1,5 +1,5 @@
 -- `classfile::put_line` meets its contract.
-use native.Mathlib.Omega.{arith}
+use Rattle.std.proofs.Common.{arith}
 use Rattle.grammar.specs.Class.{bytes_from, bytes_of}
 use Rattle.grammar.proofs.Sorted.{classes_long}
 use Rattle.lines.proofs.Texts.{put_then, put_size}

@@ -1,28 +1,21 @@
 -- `lexer::skip_blanks` meets its contract.
-use Rattle.std.proofs.Common.{◌≡◌, arith, refl, ◌∙◌}
+use Rattle.std.proofs.Common.{arith, ◌∙◌, sym}
 use Rattle.grammar.specs.Token.{is_blank}
-use Rattle.grammar.specs.Class.{blank_class}
+use Rattle.classes.specs.declared.Class.TheVariants.{Blank}
+use Rattle.classes.proofs.Marks.{differ_true, differ_false}
 use Rattle.lexer.proofs.Classes.{blank_class_lem, told, untold}
 use Rattle.lexer.proofs.Tokens.{blank_at}
 use Rattle.lexer.proofs.skip_blanks.Goals as goal
 
-pub returns-then-class_of-ne-BLANK : goal.returns-then-class_of-ne-BLANK
-returns-then-class_of-ne-BLANK c =
+pub returns-then-ne : goal.returns-then-ne
+returns-then-ne c =
     record {
       same = c.loop-i.invariant.1;
       onward = omega arith;
-      filled = λ _. untold is_blank blank_class blank_class_lem _ _ c.class_of.ensures c.if-class_of-ne-BLANK.true;
+      filled = λ _. untold is_blank Blank blank_class_lem _ _ c.class_of.ensures (differ_true _ _ (sym c.ne.ensures ∙ c.if-ne.true));
     }
-
-pub loop-i-init : goal.loop-i-init
-loop-i-init c = (omega arith, refl)
 
 pub loop-i-preserved : goal.loop-i-preserved
 loop-i-preserved c =
     let at = c.loop-i in
-    (omega arith, at.invariant.1 ∙ blank_at _ at.i (omega arith) (told is_blank blank_class blank_class_lem _ _ c.class_of.ensures c.if-class_of-ne-BLANK.false))
-
-pub returns : goal.returns
-returns c =
-    let end : c.max.result ≡ c.loop-i.i = omega arith in
-    record { same = rw end c.loop-i.invariant.1; onward = omega arith; filled = λ h. absurd (omega arith) }
+    (omega arith, at.invariant.1 ∙ blank_at _ at.i (omega arith) (told is_blank Blank blank_class_lem _ _ c.class_of.ensures (differ_false _ _ (sym c.ne.ensures ∙ c.if-ne.false))))

@@ -1,7 +1,8 @@
 -- `lexer::numbers::munch` meets its contract.
-use Rattle.std.proofs.Common.{arith, refl, ◌∙◌}
+use Rattle.std.proofs.Common.{arith, refl, ◌∙◌, sym}
 use Rattle.grammar.specs.Token.{is_digit}
-use Rattle.grammar.specs.Class.{digit_class}
+use Rattle.classes.specs.declared.Class.TheVariants.{Digit}
+use Rattle.classes.proofs.Marks.{differ_true, differ_false}
 use Rattle.lexer.proofs.Classes.{digit_class_lem, told, untold}
 use Rattle.lexer.proofs.Digits.{with_digit_small, read_on, digits_more, number_more, digits_none, number_done, digits_end, number_end}
 use Rattle.lexer.proofs.numbers.munch.Goals as goal
@@ -10,11 +11,11 @@ pub loop-i-init : goal.loop-i-init
 unfolding read_on
 loop-i-init c = (omega arith, refl, omega arith, refl)
 
-pub returns-then-class_of-ne-DIGIT : goal.returns-then-class_of-ne-DIGIT
-returns-then-class_of-ne-DIGIT c =
+pub returns-then-ne : goal.returns-then-ne
+returns-then-ne c =
     let at = c.loop-i in
     let text = c.args.text.now in
-    let none = untold is_digit digit_class digit_class_lem _ _ c.class_of.ensures c.if-class_of-ne-DIGIT.true in
+    let none = untold is_digit Digit digit_class_lem _ _ c.class_of.ensures (differ_true _ _ (sym c.ne.ensures ∙ c.if-ne.true)) in
     record {
       value = at.invariant.3 ∙ number_done text at.i at.value (omega arith) none;
       small = at.invariant.2;
@@ -23,13 +24,13 @@ returns-then-class_of-ne-DIGIT c =
     }
 
 pub with_digit-value-requires : goal.with_digit-value-requires
-with_digit-value-requires c = (c.loop-i.invariant.2, told is_digit digit_class digit_class_lem _ _ c.class_of.ensures c.if-class_of-ne-DIGIT.false)
+with_digit-value-requires c = (c.loop-i.invariant.2, told is_digit Digit digit_class_lem _ _ c.class_of.ensures (differ_false _ _ (sym c.ne.ensures ∙ c.if-ne.false)))
 
 pub loop-i-preserved : goal.loop-i-preserved
 loop-i-preserved c =
     let at = c.loop-i in
     let text = c.args.text.now in
-    let one = told is_digit digit_class digit_class_lem _ _ c.class_of.ensures c.if-class_of-ne-DIGIT.false in (
+    let one = told is_digit Digit digit_class_lem _ _ c.class_of.ensures (differ_false _ _ (sym c.ne.ensures ∙ c.if-ne.false)) in (
       omega arith,
       omega (arith, digits_more text at.i (omega arith) one),
       rw c.with_digit-value.ensures (with_digit_small at.value _),

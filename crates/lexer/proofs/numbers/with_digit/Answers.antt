@@ -1,8 +1,8 @@
 -- `lexer::numbers::with_digit` meets its contract.
-use Rattle.std.proofs.Common.{◌≤◌, arith}
+use Rattle.std.proofs.Common.{arith}
 use Rattle.std.proofs.lemmas.Bool.Decides.{nat_tests}
 use Rattle.lexer.specs.Lexed.{with_digit}
-use Rattle.lexer.proofs.Digits.{digit_low, digit_high}
+use Rattle.lexer.proofs.Digits.{digit_low}
 use Rattle.lexer.proofs.numbers.with_digit.Goals as goal
 
 pub returns-in_err-more : goal.returns-in_err-more
@@ -11,14 +11,6 @@ returns-in_err-more c = rw c.in_err-more.was c.from_residual.ensures
 
 pub overflow_sub-b : goal.overflow_sub-b
 overflow_sub-b c = digit_low c.args.b c.requires.1
-
-pub overflow_mul-more : goal.overflow_mul-more
-overflow_mul-more c = let h : c.in_ok-more.field-0 ≤ 65535 = rw c.in_ok-more.was at c.requires.0 in omega arith
-
-pub overflow_add-more : goal.overflow_add-more
-overflow_add-more c =
-    let h : c.in_ok-more.field-0 ≤ 65535 = rw c.in_ok-more.was at c.requires.0 in
-    omega (arith, digit_high c.args.b c.requires.1)
 
 pub returns : goal.returns
 unfolding with_digit

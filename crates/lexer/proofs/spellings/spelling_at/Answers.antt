@@ -1,10 +1,7 @@
 -- `lexer::spellings::spelling_at` meets its contract.
 use Rattle.std.proofs.Common.{Some, None}
-use Rattle.lexer.proofs.Read.{found_rest, rest_class, row_read, outside_read}
+use Rattle.lexer.proofs.Read.{found_rest, row_read, outside_read}
 use Rattle.lexer.proofs.spellings.spelling_at.Goals as goal
-
-pub word_or_sign-requires : goal.word_or_sign-requires
-word_or_sign-requires c = rest_class c.args.text.now c.args.at _ c.requires.0 c.requires.1
 
 pub returns-in-Some : goal.returns-in-Some
 returns-in-Some c =

@@ -1,13 +1,10 @@
 -- `lines::lines::put_decimal` meets its contract.
-use native.Mathlib.Omega.{arith}
+use Rattle.std.proofs.Common.{arith}
 use Rattle.lines.proofs.Texts.{decimal_length, decimal_some, put_size, put_one, put_last}
 use Rattle.lines.proofs.lines.+put_decimal.Goals as goal
 
 pub bounds-out-at : goal.bounds-out-at
 bounds-out-at t c = omega (arith, c.requires, decimal_some c.args.number)
-
-pub overflow_add-result : goal.overflow_add-result
-overflow_add-result t c = omega (arith, c.requires, decimal_some c.args.number, c.well_formed.0.0)
 
 pub returns-then-number-lt10 : goal.returns-then-number-lt10
 returns-then-number-lt10 t c = put_one _ _ _ c.if-number-lt10.true

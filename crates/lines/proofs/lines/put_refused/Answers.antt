@@ -1,12 +1,8 @@
 -- `lines::lines::put_refused` meets its contract.
-use mathlib.Core.List.{[], ◌∷◌}
-use native.Mathlib.Omega.{arith}
+use Rattle.std.proofs.Common.{[], ◌∷◌, arith}
 use Rattle.lines.specs.Lines.{refused_word, refused_text}
 use Rattle.lines.proofs.Texts.{line_most}
 use Rattle.lines.proofs.lines.put_refused.Goals as goal
-
-pub put_line-requires : goal.put_line-requires
-put_line-requires c = (omega (arith, c.requires.0), (c.requires.1, omega arith))
 
 pub returns : goal.returns
 unfolding refused_text

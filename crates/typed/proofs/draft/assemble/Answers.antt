@@ -1,5 +1,5 @@
 -- `typed::draft::assemble` meets its contract.
-use Rattle.std.proofs.Common.{◌≡◌, ◌-◌, ◌*◌, ◌≤◌, length, arith, sym, ◌∙◌}
+use Rattle.std.proofs.Common.{◌-◌, ◌*◌, ◌≤◌, length, arith, sym, ◌∙◌}
 use Rattle.stored.specs.Layout.{node_size, clause_size, clauses_end}
 use Rattle.typed.proofs.Writing.{put_first, assembled, assembled_length}
 use Rattle.typed.proofs.draft.assemble.Goals as goal

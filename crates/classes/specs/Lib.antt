@@ -1,0 +1,2 @@
+-- The classes of bytes.
+pub mod Mark
