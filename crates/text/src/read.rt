@@ -6,9 +6,11 @@ ghost use Rattle.typed.specs.Draft.{draft, sheet_bytes};
 ghost use Rattle.text.specs.Parts.{draft_refusal};
 ghost use Rattle.text.specs.Text.{ReadText};
 
+use crate::clause::Clauses;
 use crate::sheet::sheet;
 use lexer::brackets::too_deep;
 use lexer::ends_line;
+use propositions::nodes::Nodes;
 use stored::sheet::{read_sheet, sheet_number};
 use stored::{WriteAnswer, layout};
 use typed::draft::assemble;
@@ -89,18 +91,24 @@ pub fn read_text(text: &[u8], out: &mut [u8]) -> WriteAnswer
     if !ends_line(text) {
         return WriteAnswer::Refused(19);
     }
-    let mut nodes = no_nodes();
-    let mut clauses = no_clauses();
+    let mut nodes = Nodes {
+        bytes: no_nodes(),
+        count: 0,
+    };
+    let mut clauses = Clauses {
+        bytes: no_clauses(),
+        count: 0,
+    };
     let Some(said) = sheet(text, &mut nodes, &mut clauses) else {
         return WriteAnswer::Refused(19);
     };
     let s = said.signals;
     let m = said.names;
-    let n = said.count;
-    let c = said.many;
-    let number = refusal(s, m, &nodes, n, &clauses, c, out.len());
+    let n = nodes.count;
+    let c = clauses.count;
+    let number = refusal(s, m, &nodes.bytes, n, &clauses.bytes, c, out.len());
     if number != 0 {
         return WriteAnswer::Refused(number);
     }
-    WriteAnswer::Written(assemble(out, s, m, &nodes, n, &clauses, c))
+    WriteAnswer::Written(assemble(out, s, m, &nodes.bytes, n, &clauses.bytes, c))
 }

@@ -16,8 +16,8 @@ returns-in_default c = unread_outside _ _ _ c.too_deep.ensures c.if-too_deep.fal
 
 pub returns-then-number-ne0 : goal.returns-then-number-ne0
 returns-then-number-ne0 c =
-    let empty_nodes = c.no_nodes-nodes.ensures in
-    let empty_clauses = c.no_clauses-clauses.ensures in
+    let empty_nodes = c.no_nodes.ensures in
+    let empty_clauses = c.no_clauses.ensures in
     read_by_number _ _ _ c.too_deep.ensures c.if-too_deep.false _ _ _ _ c.in-Some.said empty_nodes empty_clauses c.in-Some.ensures _
     c.ends_line.ensures (c.if-not-ends_line.false) _ c.refusal-number.ensures c.if-number-ne0.true
 
@@ -31,8 +31,8 @@ assemble-requires c =
 
 pub returns : goal.returns
 returns c =
-    let empty_nodes = c.no_nodes-nodes.ensures in
-    let empty_clauses = c.no_clauses-clauses.ensures in
+    let empty_nodes = c.no_nodes.ensures in
+    let empty_clauses = c.no_clauses.ensures in
     read_whole _ _ _ c.too_deep.ensures c.if-too_deep.false _ _ _ _ c.in-Some.said empty_nodes empty_clauses c.in-Some.ensures _
     c.ends_line.ensures (c.if-not-ends_line.false) _
     c.refusal-number.ensures
