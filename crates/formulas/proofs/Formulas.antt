@@ -24,7 +24,7 @@ use Rattle.typed.specs.Draft.{Draft, last, node, put_over, put_or_f, put_and_f, 
 use Rattle.propositions.specs.declared.nodes.Nodes.{Nodes}
 use Rattle.propositions.specs.Lexemes.{Opens}
 use Rattle.propositions.specs.Nodes.{so_far, NodePut}
-use Rattle.propositions.specs.Reads.{ahead, Comes, Stuck, Ready, Took, Outside, Reads, Ended, Then, next, after, before_f}
+use Rattle.propositions.specs.Reads.{ahead, Comes, Stuck, Took, Outside, Reads, Ended, Then, next, after, before_f}
 use Rattle.formulas.specs.Pieces.{about_bounded, put_bounded, about_slen, put_slen, about_counted, put_counted, about_draw, put_draw, about_at, put_at, about_gap, put_gap, Place, about_level, has_level, put_level, Taken, about_piece, about_bracket_f, ReadsLevel, ReadsPiece}
 use Rattle.propositions.proofs.Chains.{Chain}
 use Rattle.propositions.proofs.Leaves.{comes, stuck_at}
@@ -299,14 +299,6 @@ unended w = refl
 
 -- by its first token
 module _ {text : List ℕ} {at : ℕ} {first : Lexed} (lexed : Next text at first) where
-  -- after a word or sign
-  pub word_ready : {x : Nodes} {word : ℕ} → first.token ≡ Plain word → Ready text at x → Ready text first.at x
-  unfolding is_end
-  word_ready {word = word} e ready =
-      let c = comes lexed (Plain word) e refl in
-      let h = c.onward in
-      record { inside = c.within; taken = omega (arith, ready.taken) }
-
   pub term_none : {room : ℕ} → ((n : ℕ) → first.token ≡ Plain n → ⊥) → Outside (about_level 0) room text at
   term_none {room} other =
       let never = stuck_at lexed (about_level 0) (λ _ w. unended w) (λ w. no_word w first.token other) in

@@ -5,13 +5,12 @@ use native.Mathlib.Omega.{arith}
 use mathlib.Core.List.{List, ◌∷◌}
 use mathlib.Core.Logic.{◌⊎◌, inl, inr}
 use mathlib.Core.Path.{◌≡◌, sym, ap, ap₂, ◌∙◌}
-use lib.ListN.{length}
 use Rattle.grammar.specs.Token.{Token, plain}
 use Rattle.grammar.specs.Reader.{State, sign, run, answer}
 use Rattle.typed.specs.Draft.{Draft, last, node, put, put_joined}
 use Rattle.propositions.specs.declared.nodes.Nodes.{Nodes}
-use Rattle.propositions.specs.Nodes.{so_far, Joinable, NodePut}
-use Rattle.propositions.specs.Reads.{ahead, Comes, Stuck, Ready, Took, Outside, Ended}
+use Rattle.propositions.specs.Nodes.{so_far, NodePut}
+use Rattle.propositions.specs.Reads.{ahead, Comes, Stuck, Took, Outside, Ended}
 use Rattle.propositions.proofs.Went.{put_counted}
 
 -- One joiner: its node's op and its sign; what is read and put of a chain, and the signs that it takes; the same of an operand.
@@ -89,13 +88,6 @@ module _ {op joiner : ℕ} {K T K₁ T₁ : Type 0} {about : K → State} {has :
 
       -- it is there
       module _ {after : ℕ} (joins : Comes (plain joiner) text got after) where
-        pub chain_ready : Ready text at x → Ready text after y
-        chain_ready ready =
-            record {
-              inside = joins.within;
-              taken = omega (arith, t.taken, joins.onward, ready.taken);
-            }
-
         here : (k : K) → answer (run room (about k) (ahead text at)) ≡ answer (run room (about₁ (chain.next k t.tree)) (ahead text after))
         here k =
             t.goes k ∙ ap (λ ts. answer (run room (has k t.tree) ts)) joins.next
@@ -109,18 +101,6 @@ module _ {op joiner : ℕ} {K T K₁ T₁ : Type 0} {about : K → State} {has :
         module _ {z : Nodes} {second : ℕ} (ended₁ : Ended about₁ has₁ puts₁ Taken₁ room text after y z second) where
           u : Took about₁ has₁ puts₁ room text after y z second
           u = ended₁.took
-
-          pub chain_joinable : Ready text at x → length text < 18446744073709551615 → Joinable op (y.count - 1) z
-          chain_joinable ready long =
-              record {
-                op_fits = chain.op_fits;
-                counted = omega (arith, u.taken, u.within, t.taken, joins.onward, ready.taken);
-                below = omega (arith, u.more);
-              }
-
-          -- the place moves on
-          pub chain_less : length text - second < length text - got
-          chain_less = omega (arith, u.onward, u.within, joins.onward)
 
           -- both with the joiner's node
           pub chain_turn : {w : Nodes} → NodePut (node op 0 (y.count - 1) (z.count - 1)) z w → Ended about has puts Taken₁ room text at x w second

@@ -14,7 +14,6 @@ use Rattle.std.specs.Prelude.{Option, Some, None}
 use Rattle.std.proofs.lemmas.Option.{same_Some, none-some}
 use Rattle.semantics.proofs.Tests.{test}
 use Rattle.stored.specs.declared.Node.{Node}
-use Rattle.stored.specs.Written.{NodeFits}
 use Rattle.grammar.specs.Token.{Token, plain, signalled, named, number, outside, true_word, false_word, open_round, or_sign, and_sign, not_sign}
 use Rattle.grammar.specs.Tree.{OrP, one_p, or_p, unit_p, and_p, UnitP, trueP, falseP, signalP, nameP, not_p, bracket_p}
 use Rattle.grammar.specs.Reader.{no_or_p, after_or_p, no_and_p, after_and_p, HoleP, no_not_p, after_not_p, after_nots, nots}
@@ -25,14 +24,14 @@ use Rattle.grammar.proofs.Next.{or_p_lem, and_p_lem, no_piece_p}
 use Rattle.lexer.specs.declared.Lexed.{Lexed}
 use Rattle.lexer.specs.declared.Token.{Token as Lexeme}
 use Rattle.lexer.specs.declared.Token.TheVariants.{Plain, Signal, Name, Number, Outside as NoToken, End}
-use Rattle.lexer.specs.Lexed.{meant, is_end, Bounded, Next}
+use Rattle.lexer.specs.Lexed.{meant, is_end, Next}
 use Rattle.typed.specs.Draft.{Draft, added, last, node, put, put_over, put_or_p, put_and_p, put_unit_p}
 use Rattle.propositions.specs.declared.leaf.Leaf.{Leaf}
 use Rattle.propositions.specs.declared.nodes.Nodes.{Nodes}
 use Rattle.propositions.specs.Nodes.{so_far, NodePut}
 use Rattle.propositions.specs.Propositions.{about_both, has_both, ByAnd, ByOr, about_unit, has_unit, about_bracket_p, NoNot, Nots}
-use Rattle.propositions.specs.Propositions.{put_nots, Negatable, Negated, single}
-use Rattle.propositions.specs.Reads.{ahead, Comes, Stuck, Ready, Took, Outside, Reads, Ended, before_p, after, next as next_piece}
+use Rattle.propositions.specs.Propositions.{put_nots, Negated, single}
+use Rattle.propositions.specs.Reads.{ahead, Comes, Stuck, Took, Outside, Reads, Ended, before_p, after, next as next_piece}
 use Rattle.propositions.proofs.Chains.{Chain}
 use Rattle.propositions.proofs.Leaves.{comes, stuck_at, no_sign}
 use Rattle.propositions.proofs.Went.{went_none, went_leaf, took_alone, put_counted, either}
@@ -199,17 +198,11 @@ module _ {x : Nodes} where
 
 -- a piece and the ! before it
 module _ {text : List ℕ} {at : ℕ} {signs : Leaf} (passed : Nots text at signs) where
-  pub bare_ready : {x : Nodes} → Ready text at x → Ready text signs.at x
-  bare_ready ready = record { inside = passed.inside ready.inside; taken = omega (arith, ready.taken, passed.taken) }
-
   module _ {room : ℕ} where
     pub negated_none : Outside about_unit room text signs.at → Outside about_unit room text at
     negated_none out = record { fails = λ k. ap answer (passed.goes room k.0 k.1) ∙ out.fails (after_nots signs.value k.0, k.1) }
 
     module _ {x y : Nodes} {to : ℕ} (took : Took about_unit has_unit put_unit_p room text signs.at x y to) where
-      pub negatable : length text < 18446744073709551615 → Ready text at x → Negatable signs.value y
-      negatable long ready = record { counted = omega (arith, took.taken, took.within, passed.taken, ready.taken) }
-
       pub negated_took : {z : Nodes} → Negated signs.value y z → Took about_unit has_unit put_unit_p room text at x z to
       unfolding has_unit_p has_or_p answer
       negated_took {z} negated =
@@ -230,20 +223,18 @@ module _ {text : List ℕ} {at : ℕ} {signs : Leaf} (passed : Nots text at sign
 -- ---- a piece of one token
 pub record IsPiece (t : Lexeme) (x : Node) : Type 0 where
   pub known : is_end t ≡ false
-  pub fits : NodeFits x
   pub tree : UnitP
   pub goes : (room : ℕ) (w : HoleP × (OrP → State)) (ts : List Token) → run room (about_unit w) (meant t ∷ ts) ≡ run room (has_unit w tree) ts
   pub puts : (d : Draft) → put x d ≡ put_unit_p tree d
 
-pub is_piece : (t : Lexeme) (x : Node) → single t ≡ Some x → Bounded t → IsPiece t x
+pub is_piece : (t : Lexeme) (x : Node) → single t ≡ Some x → IsPiece t x
 unfolding computing meant is_end put_unit_p
-is_piece (Plain n) x e small =
+is_piece (Plain n) x e =
     elim (test (eqb n true_word)) [
       | inl t ↦
           let is : node 2 0 0 0 ≡ x = same_Some _ _ (rw t at e) in
           record {
             known = refl;
-            fits = rw (← is) (record { op_fits = omega arith; q_fits = omega arith; a_fits = omega arith; b_fits = omega arith });
             tree = trueP;
             goes = λ room w ts. rw (eqb-true n true_word t);
             puts = λ d. rw (← is);
@@ -253,7 +244,6 @@ is_piece (Plain n) x e small =
             let is : node 1 0 0 0 ≡ x = same_Some _ _ (rw (t, f) at e) in
             record {
               known = refl;
-              fits = rw (← is) (record { op_fits = omega arith; q_fits = omega arith; a_fits = omega arith; b_fits = omega arith });
               tree = falseP;
               goes = λ room w ts. rw (eqb-true n false_word f);
               puts = λ d. rw (← is);
@@ -261,27 +251,25 @@ is_piece (Plain n) x e small =
         | inr f ↦ absurd (none-some x (rw (t, f) at e))
       ]
     ]
-is_piece (Signal k) x e small =
+is_piece (Signal k) x e =
     let is : node 3 0 k 0 ≡ x = same_Some _ _ e in
     record {
       known = refl;
-      fits = rw (← is) (record { op_fits = omega arith; q_fits = omega arith; a_fits = omega arith; b_fits = omega arith });
       tree = signalP k;
       goes = λ room w ts. refl;
       puts = λ d. rw (← is);
     }
-is_piece (Name u) x e small =
+is_piece (Name u) x e =
     let is : node 4 0 u 0 ≡ x = same_Some _ _ e in
     record {
       known = refl;
-      fits = rw (← is) (record { op_fits = omega arith; q_fits = omega arith; a_fits = omega arith; b_fits = omega arith });
       tree = nameP u;
       goes = λ room w ts. refl;
       puts = λ d. rw (← is);
     }
-is_piece (Number n) x e small = absurd (none-some x e)
-is_piece NoToken x e small = absurd (none-some x e)
-is_piece End x e small = absurd (none-some x e)
+is_piece (Number n) x e = absurd (none-some x e)
+is_piece NoToken x e = absurd (none-some x e)
+is_piece End x e = absurd (none-some x e)
 
 pub no_piece : (t : Lexeme) → single t ≡ None → (t ≡ Plain not_sign → ⊥) → (t ≡ Plain open_round → ⊥) → (w : HoleP × (OrP → State))
     → step (about_unit w) (meant t) ≡ failed
@@ -325,13 +313,10 @@ module _ {text : List ℕ} {at : ℕ} {first : Lexed} (next : Next text at first
 
   module _ {x : Node} (is : Some x ≡ single first.token) where
     piece : IsPiece first.token x
-    piece = is_piece first.token x (sym is) next.bounded
+    piece = is_piece first.token x (sym is)
 
     there : Comes (meant first.token) text at first.at
     there = comes next first.token refl piece.known
-
-    pub single_fits : NodeFits x
-    single_fits = piece.fits
 
     -- it is the whole piece
     pub single_took : {room : ℕ} {y z : Nodes} → at ≤ length text → NodePut x y z

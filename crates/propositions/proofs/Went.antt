@@ -12,7 +12,7 @@ use Rattle.grammar.specs.Reader.{State, sign, run, answer}
 use Rattle.stored.specs.declared.Node.{Node}
 use Rattle.typed.specs.Draft.{Draft, added, put as put_node}
 use Rattle.propositions.specs.declared.nodes.Nodes.{Nodes}
-use Rattle.propositions.specs.Reads.{ahead, Comes, Stuck, Ready, Took, Outside, Ended, Then, next, after}
+use Rattle.propositions.specs.Reads.{ahead, Comes, Stuck, Took, Outside, Ended, Then, next, after}
 use Rattle.propositions.specs.Nodes.{so_far, NodePut}
 use Rattle.propositions.specs.Lexemes.{Opens}
 use Rattle.propositions.proofs.Steps.{close_back}
@@ -29,12 +29,6 @@ went_none about room text at h = record { goes = λ k. refl; onward = omega arit
 pub went_open : {K : Type 0} {text : List ℕ} {at depth to : ℕ} (s : K → State) → Opens text at depth to
     → Went (λ k. sign open_round (s k)) depth text at (depth - 1) to s
 went_open s opens = record { goes = λ k. opens.goes (s k); onward = (let h = opens.onward in omega arith); within = opens.within }
-
--- after a bracket
-pub within_open : {text : List ℕ} {at depth : ℕ} {x : Nodes} {to : ℕ} → Ready text at x → Opens text at depth to
-    → Ready text to x
-within_open ready opens =
-    record { inside = opens.within; taken = let h = opens.onward in omega (arith, ready.taken) }
 
 -- the same of some of the states
 pub none_at : {K L : Type 0} {about : L → State} {room : ℕ} {text : List ℕ} {at : ℕ} (κ : K → L) → Outside about room text at
