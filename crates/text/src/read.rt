@@ -6,20 +6,16 @@ ghost use Rattle.typed.specs.Draft.{draft, sheet_bytes};
 ghost use Rattle.text.specs.Parts.{draft_refusal};
 ghost use Rattle.text.specs.Text.{ReadText};
 
-use crate::clause::Clauses;
+use crate::clause::{CLAUSE_BYTES, Clauses};
 use crate::sheet::sheet;
 use lexer::brackets::too_deep;
 use lexer::ends_line;
-use propositions::nodes::Nodes;
+use propositions::nodes::{NODE_BYTES, Nodes};
 use stored::sheet::{read_sheet, sheet_number};
 use stored::{WriteAnswer, layout};
 use typed::draft::assemble;
 
-// The bytes of the most nodes, of the most clauses, and of a sheet that has both.
-const NODE_BYTES: usize = layout::NODE_SIZE * layout::MOST_NODES;
-
-const CLAUSE_BYTES: usize = layout::CLAUSE_SIZE * layout::MOST_CLAUSES;
-
+// The bytes of a sheet that has the most nodes and the most clauses.
 const SHEET_BYTES: usize = layout::NODES_START + NODE_BYTES + CLAUSE_BYTES;
 
 fn no_nodes() -> [u8; NODE_BYTES]
