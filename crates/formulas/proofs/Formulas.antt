@@ -20,11 +20,11 @@ use Rattle.lexer.specs.declared.Lexed.{Lexed}
 use Rattle.lexer.specs.declared.Token.{Token as Told}
 use Rattle.lexer.specs.declared.Token.TheVariants.{Plain, Signal, Name, Number, Outside as NoToken, End}
 use Rattle.lexer.specs.Lexed.{meant, is_end, Next}
-use Rattle.typed.specs.Draft.{Draft, draft, last, node, put_over, put_or_f, put_and_f, put_chop_f, put_unit_f}
-use Rattle.propositions.specs.declared.Got.{Got}
+use Rattle.typed.specs.Draft.{Draft, last, node, put_over, put_or_f, put_and_f, put_chop_f, put_unit_f}
+use Rattle.propositions.specs.declared.nodes.Nodes.{Nodes}
 use Rattle.propositions.specs.Lexemes.{Opens}
-use Rattle.propositions.specs.Nodes.{NodePut}
-use Rattle.propositions.specs.Reads.{ahead, Comes, Stuck, Ready, Took, Outside, Reads, Ended, Then, next, after, before_f}
+use Rattle.propositions.specs.Nodes.{so_far, NodePut}
+use Rattle.propositions.specs.Reads.{ahead, Comes, Stuck, Took, Outside, Reads, Ended, Then, next, after, before_f}
 use Rattle.formulas.specs.Pieces.{about_bounded, put_bounded, about_slen, put_slen, about_counted, put_counted, about_draw, put_draw, about_at, put_at, about_gap, put_gap, Place, about_level, has_level, put_level, Taken, about_piece, about_bracket_f, ReadsLevel, ReadsPiece}
 use Rattle.propositions.proofs.Chains.{Chain}
 use Rattle.propositions.proofs.Leaves.{comes, stuck_at}
@@ -51,12 +51,12 @@ star_none w u room n ts bare taken = elim taken [
 ]
 
 -- a piece as it was read by the word or sign that it begins with
-module _ (room : ℕ) (text : List ℕ) (at : ℕ) (x : List ℕ) (count : ℕ) (y : List ℕ) (r : Option Got) where
+module _ (room : ℕ) (text : List ℕ) (at : ℕ) (x y : Nodes) (r : Option ℕ) where
   -- it is the unit u of what was read
   closes_piece : {T : Type 0} (word : ℕ) (about : (T → State) → State) (put : T → Draft → Draft) (u : T → UnitF)
       → ((w : Place 0) → about_piece word w ≡ about (λ t. has_unit_f w.0 w.1 (u t))) → ((t : T) (d : Draft) → put t d ≡ put_unit_f (u t) d)
-      → ((t : T) (k : UnitF → State) → starred (u t) k ≡ failed) → Reads about next put room text at x count y r
-      → ReadsPiece (about_piece word) room text at x count y r
+      → ((t : T) (k : UnitF → State) → starred (u t) k ≡ failed) → Reads about next put room text at x y r
+      → ReadsPiece (about_piece word) room text at x y r
   closes_piece word about put u same puts bare =
       either r
       (λ out.
@@ -67,7 +67,7 @@ module _ (room : ℕ) (text : List ℕ) (at : ℕ) (x : List ℕ) (count : ℕ) 
             record {
               tree = u t.tree;
               goes = λ w. ap (λ s. answer (run room s (ahead text at))) (same w) ∙ t.goes (λ t. has_unit_f w.0 w.1 (u t));
-              drafted = t.drafted ∙ puts t.tree (draft x count);
+              drafted = t.drafted ∙ puts t.tree (so_far x);
               onward = t.onward;
               within = t.within;
               more = t.more;
@@ -76,55 +76,55 @@ module _ (room : ℕ) (text : List ℕ) (at : ℕ) (x : List ℕ) (count : ℕ) 
         stops = λ w n ts taken there. star_none w (u t.tree) room n ts (bare t.tree) taken;
       })
 
-  pub point_closes : {word : ℕ} → word ≡ 17 → Reads (about_bounded 21) next (put_bounded 16) room text at x count y r
-      → ReadsPiece (about_piece word) room text at x count y r
+  pub point_closes : {word : ℕ} → word ≡ 17 → Reads (about_bounded 21) next (put_bounded 16) room text at x y r
+      → ReadsPiece (about_piece word) room text at x y r
   unfolding computing put_unit_f
   point_closes {word = word} e = closes_piece word (about_bounded 21) (put_bounded 16) pointF (λ w. rw e) (λ t d. refl) (λ t k. refl)
 
-  pub stretch_closes : {word : ℕ} → word ≡ 24 → Reads (about_bounded 25) next (put_bounded 17) room text at x count y r
-      → ReadsPiece (about_piece word) room text at x count y r
+  pub stretch_closes : {word : ℕ} → word ≡ 24 → Reads (about_bounded 25) next (put_bounded 17) room text at x y r
+      → ReadsPiece (about_piece word) room text at x y r
   unfolding computing put_unit_f
   stretch_closes {word = word} e = closes_piece word (about_bounded 25) (put_bounded 17) stretchF (λ w. rw e) (λ t d. refl) (λ t k. refl)
 
-  pub whole_closes : {word : ℕ} → word ≡ 26 → Reads (about_bounded 27) next (put_bounded 18) room text at x count y r
-      → ReadsPiece (about_piece word) room text at x count y r
+  pub whole_closes : {word : ℕ} → word ≡ 26 → Reads (about_bounded 27) next (put_bounded 18) room text at x y r
+      → ReadsPiece (about_piece word) room text at x y r
   unfolding computing put_unit_f
   whole_closes {word = word} e = closes_piece word (about_bounded 27) (put_bounded 18) wholeF (λ w. rw e) (λ t d. refl) (λ t k. refl)
 
-  pub brace_closes : {word : ℕ} → word ≡ 28 → Reads (about_bounded 29) next (put_bounded 19) room text at x count y r
-      → ReadsPiece (about_piece word) room text at x count y r
+  pub brace_closes : {word : ℕ} → word ≡ 28 → Reads (about_bounded 29) next (put_bounded 19) room text at x y r
+      → ReadsPiece (about_piece word) room text at x y r
   unfolding computing put_unit_f
   brace_closes {word = word} e = closes_piece word (about_bounded 29) (put_bounded 19) braceF (λ w. rw e) (λ t d. refl) (λ t k. refl)
 
-  pub scount_closes : {word : ℕ} → word ≡ 12 → Reads about_counted next (put_counted 25) room text at x count y r
-      → ReadsPiece (about_piece word) room text at x count y r
+  pub scount_closes : {word : ℕ} → word ≡ 12 → Reads about_counted next (put_counted 25) room text at x y r
+      → ReadsPiece (about_piece word) room text at x y r
   unfolding computing put_unit_f
   scount_closes {word = word} e =
       closes_piece word about_counted (put_counted 25) (λ t. scountF t.0 t.1 t.2) (λ w. rw e) (λ t d. refl) (λ t k. refl)
 
-  pub sdur_closes : {word : ℕ} → word ≡ 13 → Reads about_counted next (put_counted 26) room text at x count y r
-      → ReadsPiece (about_piece word) room text at x count y r
+  pub sdur_closes : {word : ℕ} → word ≡ 13 → Reads about_counted next (put_counted 26) room text at x y r
+      → ReadsPiece (about_piece word) room text at x y r
   unfolding computing put_unit_f
   sdur_closes {word = word} e =
       closes_piece word about_counted (put_counted 26) (λ t. sdurF t.0 t.1 t.2) (λ w. rw e) (λ t d. refl) (λ t k. refl)
 
-  pub slen_closes : {word : ℕ} → word ≡ 11 → Reads about_slen next put_slen room text at x count y r
-      → ReadsPiece (about_piece word) room text at x count y r
+  pub slen_closes : {word : ℕ} → word ≡ 11 → Reads about_slen next put_slen room text at x y r
+      → ReadsPiece (about_piece word) room text at x y r
   unfolding computing
   slen_closes {word = word} e = closes_piece word about_slen put_slen (λ t. slen_f t.0 t.1) (λ w. rw e) (λ t d. refl) (λ t k. refl)
 
-  pub draw_closes : {word : ℕ} → word ≡ 14 → Reads about_draw next put_draw room text at x count y r
-      → ReadsPiece (about_piece word) room text at x count y r
+  pub draw_closes : {word : ℕ} → word ≡ 14 → Reads about_draw next put_draw room text at x y r
+      → ReadsPiece (about_piece word) room text at x y r
   unfolding computing
   draw_closes {word = word} e = closes_piece word about_draw put_draw (λ t. draw_f t.0 t.1) (λ w. rw e) (λ t d. refl) (λ t k. refl)
 
-  pub at_closes : {word : ℕ} → word ≡ 15 → Reads about_at next put_at room text at x count y r
-      → ReadsPiece (about_piece word) room text at x count y r
+  pub at_closes : {word : ℕ} → word ≡ 15 → Reads about_at next put_at room text at x y r
+      → ReadsPiece (about_piece word) room text at x y r
   unfolding computing
   at_closes {word = word} e = closes_piece word about_at put_at at_f (λ w. rw e) (λ t d. refl) (λ t k. refl)
 
-  pub gap_closes : {word : ℕ} → word ≡ 16 → Reads about_gap next put_gap room text at x count y r
-      → ReadsPiece (about_piece word) room text at x count y r
+  pub gap_closes : {word : ℕ} → word ≡ 16 → Reads about_gap next put_gap room text at x y r
+      → ReadsPiece (about_piece word) room text at x y r
   unfolding computing
   gap_closes {word = word} e = closes_piece word about_gap put_gap (λ t. gap_f t.0 t.1 t.2 t.3) (λ w. rw e) (λ t d. refl) (λ t k. refl)
 
@@ -204,9 +204,9 @@ level_chain (suc (suc (suc zero))) some h =
     }
 level_chain (suc (suc (suc (suc l)))) some h = absurd (omega arith)
 
-pub level_zero : (room : ℕ) (text : List ℕ) (at : ℕ) (x : List ℕ) (count : ℕ) (y : List ℕ) (r : Option Got) (l : ℕ) → l ≡ 0
-    → ReadsLevel 0 room text at x count y r → ReadsLevel l room text at x count y r
-level_zero room text at x count y r l e closes = subst (λ l. ReadsLevel l room text at x count y r) (sym e) closes
+pub level_zero : (room : ℕ) (text : List ℕ) (at : ℕ) (x y : Nodes) (r : Option ℕ) (l : ℕ) → l ≡ 0
+    → ReadsLevel 0 room text at x y r → ReadsLevel l room text at x y r
+level_zero room text at x y r l e closes = subst (λ l. ReadsLevel l room text at x y r) (sym e) closes
 
 -- ---- a whole formula
 abbrev is_joiner : ℕ → Bool
@@ -251,9 +251,9 @@ follow f k room (named u ∷ ts) stops = refl
 follow f k room (number n ∷ ts) stops = refl
 follow f k room (outside ∷ ts) stops = refl
 
-pub formula_reads : (room : ℕ) (text : List ℕ) (at : ℕ) (x : List ℕ) (count : ℕ) (y : List ℕ) (r : Option Got)
-    → ReadsLevel 3 room text at x count y r → Reads before_f after put_or_f room text at x count y r
-formula_reads room text at x count y r =
+pub formula_reads : (room : ℕ) (text : List ℕ) (at : ℕ) (x y : Nodes) (r : Option ℕ)
+    → ReadsLevel 3 room text at x y r → Reads before_f after put_or_f room text at x y r
+formula_reads room text at x y r =
     either r (λ out. record { fails = λ k. out.fails (tt, after k) })
     (λ got ended.
     let t = ended.took in
@@ -261,7 +261,7 @@ formula_reads room text at x count y r =
       tree = t.tree;
       goes = λ k.
           t.goes (tt, after k)
-          ∙ follow t.tree k room (ahead text got.at) (λ n ts taken there. ended.stops (tt, after k) n ts taken there);
+          ∙ follow t.tree k room (ahead text got) (λ n ts taken there. ended.stops (tt, after k) n ts taken there);
       drafted = t.drafted;
       onward = t.onward;
       within = t.within;
@@ -299,22 +299,14 @@ unended w = refl
 
 -- by its first token
 module _ {text : List ℕ} {at : ℕ} {first : Lexed} (lexed : Next text at first) where
-  -- after a word or sign
-  pub word_ready : {x : List ℕ} {count word : ℕ} → first.token ≡ Plain word → Ready text at x count → Ready text first.at x count
-  unfolding is_end
-  word_ready {word = word} e ready =
-      let c = comes lexed (Plain word) e refl in
-      let h = c.onward in
-      record { area = ready.area; inside = c.within; taken = omega (arith, ready.taken) }
-
   pub term_none : {room : ℕ} → ((n : ℕ) → first.token ≡ Plain n → ⊥) → Outside (about_level 0) room text at
   term_none {room} other =
       let never = stuck_at lexed (about_level 0) (λ _ w. unended w) (λ w. no_word w first.token other) in
       record { fails = λ w. never.fails room w }
 
-  module _ (room : ℕ) (x : List ℕ) (count : ℕ) (y : List ℕ) (r : Option Got) where
-    pub term_piece : (word : ℕ) → first.token ≡ Plain word → (word ≡ 22 → ⊥) → ReadsPiece (about_piece word) room text first.at x count y r
-        → ReadsLevel 0 room text at x count y r
+  module _ (room : ℕ) (x y : Nodes) (r : Option ℕ) where
+    pub term_piece : (word : ℕ) → first.token ≡ Plain word → (word ≡ 22 → ⊥) → ReadsPiece (about_piece word) room text first.at x y r
+        → ReadsLevel 0 room text at x y r
     unfolding meant is_end
     term_piece word e h =
         let there = comes lexed (Plain word) e refl in
@@ -324,8 +316,8 @@ module _ {text : List ℕ} {at : ℕ} {first : Lexed} (lexed : Next text at firs
         λ w. ap (λ ts. answer (run room (about_level 0 w) ts)) there.next ∙ enter w word room (ahead text first.at) h in
         either r (none_from goes) (λ got. ended_from (omega arith) goes)
 
-    pub term_bracket : first.token ≡ Plain open_round → ReadsPiece about_bracket_f room text at x count y r
-        → ReadsLevel 0 room text at x count y r
+    pub term_bracket : first.token ≡ Plain open_round → ReadsPiece about_bracket_f room text at x y r
+        → ReadsLevel 0 room text at x y r
     unfolding meant is_end
     term_bracket e =
         let there = (comes lexed (Plain open_round) e refl).next in
@@ -346,15 +338,14 @@ module _ {text : List ℕ} {at depth : ℕ} where
     unfolding within_bracket
     bracket_empty out = none_at within_bracket (bracket_inner_none about_or_f opens out)
 
-    module _ {x : List ℕ} {count : ℕ} {z : List ℕ} {inner : Got} (t : Took before_f after put_or_f (depth - 1) text opening x count z inner) where
-      pub bracket_unclosed : Stuck (sign close_round) text inner.at → Outside about_bracket_f depth text at
+    module _ {x z : Nodes} {inner : ℕ} (t : Took before_f after put_or_f (depth - 1) text opening x z inner) where
+      pub bracket_unclosed : Stuck (sign close_round) text inner → Outside about_bracket_f depth text at
       unfolding within_bracket
       bracket_unclosed never = none_at within_bracket (bracket_close_none about_or_f opens t never)
 
-      module _ {close : ℕ} (leaf : Comes (plain close_round) text inner.at close) where
+      module _ {close : ℕ} (leaf : Comes (plain close_round) text inner close) where
         -- up to the closing bracket
-        inside : Took (λ (k : OrF → State). sign open_round (about_or_f (λ f. sign close_round (k f)))) next put_or_f depth text at x count z
-            (record { at = close; count = inner.count })
+        inside : Took (λ (k : OrF → State). sign open_round (about_or_f (λ f. sign close_round (k f)))) next put_or_f depth text at x z close
         inside = bracket_took about_or_f opens t leaf
 
         bracketed : Went about_bracket_f depth text at depth close (λ w. has_level 0 w (bracketF inside.tree))
@@ -363,7 +354,7 @@ module _ {text : List ℕ} {at depth : ℕ} where
 
         -- no star follows
         pub bracket_bare : Stuck (sign star_sign) text close
-            → Ended about_bracket_f (has_level 0) put_unit_f (Taken 0) depth text at x count z (record { at = close; count = inner.count })
+            → Ended about_bracket_f (has_level 0) put_unit_f (Taken 0) depth text at x z close
         unfolding put_unit_f
         bracket_bare bare =
             record {
@@ -388,9 +379,9 @@ module _ {text : List ℕ} {at depth : ℕ} where
               ];
             }
 
-        pub bracket_star : {star : ℕ} {y : List ℕ} {r : ℕ} → Comes (plain star_sign) text close star
-            → NodePut (node 23 0 (inner.count - 1) 0) z inner.count y r
-            → Ended about_bracket_f (has_level 0) put_unit_f (Taken 0) depth text at x count y (record { at = star; count = r })
+        pub bracket_star : {star : ℕ} {y : Nodes} → Comes (plain star_sign) text close star
+            → NodePut (node 23 0 (z.count - 1) 0) z y
+            → Ended about_bracket_f (has_level 0) put_unit_f (Taken 0) depth text at x y star
         unfolding computing put_unit_f put_over last
         bracket_star starry p =
             let more = inside.more in

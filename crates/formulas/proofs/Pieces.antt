@@ -10,11 +10,11 @@ use Rattle.stored.specs.Tree.{comparison_of}
 use Rattle.grammar.specs.Token.{plain, number, named, signalled, close_round, comma_sign}
 use Rattle.grammar.specs.Tree.{OrP, slen_f, draw_f}
 use Rattle.grammar.specs.Reader.{State, sign, a_number, a_name, a_signal, a_comparison}
-use Rattle.typed.specs.Draft.{Draft, draft, last, node, put, put_over, comparison_number, in_byte, put_or_p, put_unit_f}
-use Rattle.propositions.specs.declared.Got.{Got}
+use Rattle.typed.specs.Draft.{Draft, last, node, put, put_over, comparison_number, in_byte, put_or_p, put_unit_f}
 use Rattle.propositions.specs.declared.leaf.Leaf.{Leaf}
+use Rattle.propositions.specs.declared.nodes.Nodes.{Nodes}
 use Rattle.propositions.specs.Lexemes.{Opens}
-use Rattle.propositions.specs.Nodes.{NodePut}
+use Rattle.propositions.specs.Nodes.{so_far, NodePut}
 use Rattle.propositions.specs.Reads.{comparison_token, Comes, Stuck, Outside, Took, Then, next, after, before_p}
 use Rattle.propositions.specs.Propositions.{about_bracket_p}
 use Rattle.formulas.specs.Pieces.{about_bounded, put_bounded, about_slen, put_slen, about_counted, put_counted, about_draw, put_draw, about_at, put_at, about_gap, put_gap}
@@ -47,16 +47,16 @@ module _ {close depth : ℕ} {text : List ℕ} {at : ℕ} (h : close < 30) where
   pub bounded_none : Outside before_p depth text at → Outside (about_bounded close) depth text at
   bounded_none out = record { fails = λ k. out.fails (closing h k) }
 
-  module _ {x : List ℕ} {count : ℕ} {z : List ℕ} {inner : Got} (t : Took before_p after put_or_p depth text at x count z inner) where
-    w₁ : Went (about_bounded close) depth text at depth inner.at (λ k. sign close (k t.tree))
+  module _ {x z : Nodes} {inner : ℕ} (t : Took before_p after put_or_p depth text at x z inner) where
+    w₁ : Went (about_bounded close) depth text at depth inner (λ k. sign close (k t.tree))
     w₁ = went_at (closing h) (went_took t)
 
-    pub bounded_unclosed : Stuck (sign close) text inner.at → Outside (about_bounded close) depth text at
+    pub bounded_unclosed : Stuck (sign close) text inner → Outside (about_bounded close) depth text at
     bounded_unclosed never = fails_leaf (λ k. k t.tree) w₁ never
 
-    pub bounded_took : {op end : ℕ} {y : List ℕ} {r : ℕ} → (close ≡ 22 → ⊥) → (close ≡ 23 → ⊥) → Comes (plain close) text inner.at end
-        → NodePut (node op 0 (inner.count - 1) 0) z inner.count y r
-        → Took (about_bounded close) next (put_bounded op) depth text at x count y (record { at = end; count = r })
+    pub bounded_took : {op end : ℕ} {y : Nodes} → (close ≡ 22 → ⊥) → (close ≡ 23 → ⊥) → Comes (plain close) text inner end
+        → NodePut (node op 0 (z.count - 1) 0) z y
+        → Took (about_bounded close) next (put_bounded op) depth text at x y end
     unfolding put_over last
     bounded_took {op = op} h₁ h₂ leaf p =
         let a = t.more in
@@ -76,25 +76,25 @@ module _ {text : List ℕ} {at : ℕ} (depth : ℕ) (inside : at ≤ length text
     pub slen_unended : Stuck a_number text cmp.at → Outside about_slen depth text at
     slen_unended never = fails_leaf (λ k n. k (comparison_of cmp.value, n)) compared_went never
 
-    pub slen_took : {end : Leaf} {x : List ℕ} {count : ℕ} {y : List ℕ} {r : ℕ} → cmp.value ≤ 4 → Comes (number end.value) text cmp.at end.at
-        → NodePut (node 24 cmp.value 0 end.value) x count y r
-        → Took about_slen next put_slen depth text at x count y (record { at = end.at; count = r })
-    slen_took {end} {x} {count} known leaf₂ p =
+    pub slen_took : {end : Leaf} {x y : Nodes} → cmp.value ≤ 4 → Comes (number end.value) text cmp.at end.at
+        → NodePut (node 24 cmp.value 0 end.value) x y
+        → Took about_slen next put_slen depth text at x y end.at
+    slen_took {end} {x} known leaf₂ p =
         let c = comparison_of cmp.value in
         let n = end.value in
         took_alone (c, n) (went_leaf depth (λ k. k (c, n)) compared_went leaf₂ (λ k ts. number_run depth n _ ts)) p
-        (slen_same cmp.value n (draft x count) known) (further compared_went leaf₂)
+        (slen_same cmp.value n (so_far x) known) (further compared_went leaf₂)
 
 -- scount and sdur: in brackets a proposition, then a comparison and a number
 abbrev counted_onto : (OrP × Comparison × ℕ → State) → OrP → State
 counted_onto k p = a_comparison (λ c. a_number (λ n. k (p, c, n)))
 
 module _ {depth : ℕ} {text : List ℕ} {at : ℕ} where
-  module _ {x : List ℕ} {count : ℕ} {z : List ℕ} {inner : Got} (t : Took about_bracket_p next put_or_p depth text at x count z inner) where
-    inner_went : Went about_counted depth text at depth inner.at (λ k. counted_onto k t.tree)
+  module _ {x z : Nodes} {inner : ℕ} (t : Took about_bracket_p next put_or_p depth text at x z inner) where
+    inner_went : Went about_counted depth text at depth inner (λ k. counted_onto k t.tree)
     inner_went = went_at counted_onto (went_took t)
 
-    module _ (cmp : Leaf) (leaf₁ : Comes (comparison_token cmp.value) text inner.at cmp.at) where
+    module _ (cmp : Leaf) (leaf₁ : Comes (comparison_token cmp.value) text inner cmp.at) where
       number_went : Went about_counted depth text at depth cmp.at (λ k. a_number (λ n. k (t.tree, comparison_of cmp.value, n)))
       number_went =
           went_leaf depth (λ k. a_number (λ n. k (t.tree, comparison_of cmp.value, n))) inner_went leaf₁
@@ -103,9 +103,9 @@ module _ {depth : ℕ} {text : List ℕ} {at : ℕ} where
       pub counted_unended : Stuck a_number text cmp.at → Outside about_counted depth text at
       counted_unended never = fails_leaf (λ k n. k (t.tree, comparison_of cmp.value, n)) number_went never
 
-      pub counted_took : {op : ℕ} {end : Leaf} {y : List ℕ} {r : ℕ} → cmp.value ≤ 4 → Comes (number end.value) text cmp.at end.at
-          → NodePut (node op cmp.value (inner.count - 1) end.value) z inner.count y r
-          → Took about_counted next (put_counted op) depth text at x count y (record { at = end.at; count = r })
+      pub counted_took : {op : ℕ} {end : Leaf} {y : Nodes} → cmp.value ≤ 4 → Comes (number end.value) text cmp.at end.at
+          → NodePut (node op cmp.value (z.count - 1) end.value) z y
+          → Took about_counted next (put_counted op) depth text at x y end.at
       unfolding put_over last
       counted_took {op} {end} known leaf₂ p =
           let c = comparison_of cmp.value in
@@ -117,7 +117,7 @@ module _ {depth : ℕ} {text : List ℕ} {at : ℕ} where
           let d₂ = leaf₂.onward in
           took_put (t.tree, c, n) (went_leaf depth (λ k. k (t.tree, c, n)) number_went leaf₂ (λ k ts. number_run depth n _ ts)) p
           (ap (put_over op cmp.value n) t.drafted
-          ∙ ap (λ q. put_over op q n (put_or_p t.tree (draft x count))) (sym (compared cmp.value known)))
+          ∙ ap (λ q. put_over op q n (put_or_p t.tree (so_far x))) (sym (compared cmp.value known)))
           (omega arith) (omega arith) (omega arith)
 
 -- draw: a number and a signal
@@ -160,14 +160,14 @@ module _ {depth : ℕ} {text : List ℕ} {at : ℕ} where
           pub draw_unclosed : Stuck (sign close_round) text signal.at → Outside about_draw depth text at
           draw_unclosed never = fails_leaf (λ k. k (symbol.value, signal.value)) draw₃ never
 
-          pub draw_took : {end b : ℕ} {x : List ℕ} {count : ℕ} {y : List ℕ} {r : ℕ} → Comes (plain close_round) text signal.at end
-              → b ≡ in_byte symbol.value → NodePut (node 27 b signal.value 0) x count y r
-              → Took about_draw next put_draw depth text at x count y (record { at = end; count = r })
-          draw_took {b = b} {x = x} {count = count} leaf₄ byte p =
+          pub draw_took : {end b : ℕ} {x y : Nodes} → Comes (plain close_round) text signal.at end
+              → b ≡ in_byte symbol.value → NodePut (node 27 b signal.value 0) x y
+              → Took about_draw next put_draw depth text at x y end
+          draw_took {b = b} {x = x} leaf₄ byte p =
               let t : ℕ × ℕ = (symbol.value, signal.value) in
               took_alone t
               (went_leaf depth (λ k. k t) draw₃ leaf₄ (λ k ts. close_back depth (k t) ts opens.roomy)) p
-              (draw_same symbol.value signal.value b (draft x count) byte) (further draw₃ leaf₄)
+              (draw_same symbol.value signal.value b (so_far x) byte) (further draw₃ leaf₄)
 
 -- at: a name
 module _ {depth : ℕ} {text : List ℕ} {at : ℕ} where
@@ -184,9 +184,9 @@ module _ {depth : ℕ} {text : List ℕ} {at : ℕ} where
       pub at_unclosed : Stuck (sign close_round) text name.at → Outside about_at depth text at
       at_unclosed never = fails_leaf (λ k. k name.value) at₁ never
 
-      pub at_took : {end : ℕ} {x : List ℕ} {count : ℕ} {y : List ℕ} {r : ℕ} → Comes (plain close_round) text name.at end
-          → NodePut (node 28 0 name.value 0) x count y r
-          → Took about_at next put_at depth text at x count y (record { at = end; count = r })
+      pub at_took : {end : ℕ} {x y : Nodes} → Comes (plain close_round) text name.at end
+          → NodePut (node 28 0 name.value 0) x y
+          → Took about_at next put_at depth text at x y end
       unfolding put_unit_f
       at_took leaf₂ p =
           took_alone name.value
@@ -280,9 +280,9 @@ module _ {depth : ℕ} {text : List ℕ} {at : ℕ} where
                   pub gap_unclosed : Stuck (sign close_round) text most.at → Outside about_gap depth text at
                   gap_unclosed never = fails_leaf (λ k. k gap_tree) gap₇ never
 
-                  pub gap_took : {end : ℕ} {x : List ℕ} {count : ℕ} {y : List ℕ} {r : ℕ} → Comes (plain close_round) text most.at end
-                      → NodePut (node 29 (16 * first.value + second.value) least.value most.value) x count y r
-                      → Took about_gap next put_gap depth text at x count y (record { at = end; count = r })
+                  pub gap_took : {end : ℕ} {x y : Nodes} → Comes (plain close_round) text most.at end
+                      → NodePut (node 29 (16 * first.value + second.value) least.value most.value) x y
+                      → Took about_gap next put_gap depth text at x y end
                   unfolding put_unit_f gap_tree
                   gap_took leaf₈ p =
                       took_alone gap_tree

@@ -5,7 +5,7 @@ use Rattle.grammar.specs.Token.{plain, open_round, close_round, comma_sign}
 use Rattle.grammar.specs.Tree.{OrP, OrF, AndF, ChopF, UnitF, slen_f, draw_f, at_f, gap_f, bracketF}
 use Rattle.grammar.specs.Reader.{OrHoleF, AndHoleF, HoleF, State, sign, a_number, a_name, a_signal, a_comparison, about_or_p, about_or_f, has_or_f, about_and_f, has_and_f, about_chop_f, has_chop_f, about_unit_f, has_unit_f, start_f}
 use Rattle.typed.specs.Draft.{Draft, put_over, comparison_number, put_or_p, put_or_f, put_and_f, put_chop_f, put_unit_f}
-use Rattle.propositions.specs.declared.Got.{Got}
+use Rattle.propositions.specs.declared.nodes.Nodes.{Nodes}
 use Rattle.propositions.specs.Reads.{Closes}
 use Rattle.propositions.specs.Propositions.{about_bracket_p}
 
@@ -99,8 +99,8 @@ abbrev pub about_bracket_f : Place 0 → State
 about_bracket_f w = sign open_round (about_or_f (λ f. sign close_round (has_unit_f w.0 w.1 (bracketF f))))
 
 -- a formula of a level read; a single piece read, from where it is about to be
-abbrev pub ReadsLevel : ℕ → ℕ → List ℕ → ℕ → List ℕ → ℕ → List ℕ → Option Got → Type 0
-ReadsLevel l room text at x count y r = Closes (about_level l) (has_level l) (put_level l) (Taken l) room text at x count y r
+abbrev pub ReadsLevel : ℕ → ℕ → List ℕ → ℕ → Nodes → Nodes → Option ℕ → Type 0
+ReadsLevel l room text at x y r = Closes (about_level l) (has_level l) (put_level l) (Taken l) room text at x y r
 
-abbrev pub ReadsPiece : (Place 0 → State) → ℕ → List ℕ → ℕ → List ℕ → ℕ → List ℕ → Option Got → Type 0
-ReadsPiece about room text at x count y r = Closes about (has_level 0) put_unit_f (Taken 0) room text at x count y r
+abbrev pub ReadsPiece : (Place 0 → State) → ℕ → List ℕ → ℕ → Nodes → Nodes → Option ℕ → Type 0
+ReadsPiece about room text at x y r = Closes about (has_level 0) put_unit_f (Taken 0) room text at x y r

@@ -6,8 +6,9 @@ ghost use Rattle.formulas.specs.Pieces.{about_bracket_f, ReadsLevel, ReadsPiece}
 
 use crate::piece::piece;
 use lexer::{Token, next};
+use propositions::leaf;
+use propositions::nodes::Nodes;
 use propositions::words::{CHOP_SIGN, CLOSE_ROUND, OPEN_ROUND, STAR_SIGN};
-use propositions::{Got, leaf, nodes};
 use stored::ops;
 
 // How tightly a formula binds: level 0 is a single piece, level 1 joins pieces by ^, level 2 joins those by &, level 3 those by |.
@@ -15,35 +16,30 @@ const FORMULA: usize = 3;
 
 // A formula in round brackets, from the first bracket on, and the star that may follow it.
 #[cycle(bracket_formula_joined_term)]
-fn bracket(text: &[u8], at: usize, depth: usize, nodes: &mut [u8], count: usize) -> Option<Got>
-    requires { Ready text.now at nodes.old count }
-    ensures { ReadsPiece about_bracket_f depth text.now at nodes.old count nodes.new result }
+fn bracket(text: &[u8], at: usize, depth: usize, nodes: &mut Nodes) -> Option<usize>
+    requires { Ready text.now at nodes.old }
+    ensures { ReadsPiece about_bracket_f depth text.now at nodes.old nodes.new result }
 {
     let open = leaf::opened(text, at, depth)?;
-    let inner = formula(text, open, depth - 1, nodes, count)?;
-    let close = leaf::sign(text, inner.at, CLOSE_ROUND)?;
+    let inner = formula(text, open, depth - 1, nodes)?;
+    let close = leaf::sign(text, inner, CLOSE_ROUND)?;
     let Some(star) = leaf::sign(text, close, STAR_SIGN) else {
-        return Some(Got {
-            at: close,
-            count: inner.count,
-        });
+        return Some(close);
     };
-    Some(Got {
-        at: star,
-        count: nodes::over(ops::STAR, 0, 0, nodes, inner.count),
-    })
+    nodes.over(ops::STAR, 0, 0);
+    Some(star)
 }
 
 // A single piece.
 #[cycle(bracket_formula_joined_term)]
-fn term(text: &[u8], at: usize, depth: usize, nodes: &mut [u8], count: usize) -> Option<Got>
-    requires { Ready text.now at nodes.old count }
-    ensures { ReadsLevel 0 depth text.now at nodes.old count nodes.new result }
+fn term(text: &[u8], at: usize, depth: usize, nodes: &mut Nodes) -> Option<usize>
+    requires { Ready text.now at nodes.old }
+    ensures { ReadsLevel 0 depth text.now at nodes.old nodes.new result }
 {
     let first = next(text, at);
     match first.token {
-        Token::Plain(OPEN_ROUND) => bracket(text, at, depth, nodes, count),
-        Token::Plain(word) => piece(text, first.at, depth, nodes, count, word),
+        Token::Plain(OPEN_ROUND) => bracket(text, at, depth, nodes),
+        Token::Plain(word) => piece(text, first.at, depth, nodes, word),
         _ => None,
     }
 }
@@ -51,39 +47,30 @@ fn term(text: &[u8], at: usize, depth: usize, nodes: &mut [u8], count: usize) ->
 // A formula of this level. The joiner of level 1 is ^ with the op of a chop; one sign before it and one op after it are those of
 // level 2, and so on.
 #[cycle(bracket_formula_joined_term)]
-fn joined(
-    text: &[u8],
-    at: usize,
-    depth: usize,
-    level: usize,
-    nodes: &mut [u8],
-    count: usize,
-) -> Option<Got>
-    requires ready { Ready text.now at nodes.old count }
+fn joined(text: &[u8], at: usize, depth: usize, level: usize, nodes: &mut Nodes) -> Option<usize>
+    requires ready { Ready text.now at nodes.old }
     requires known_level { level ≤ 3 }
-    ensures { ReadsLevel level depth text.now at nodes.old count nodes.new result }
+    ensures { ReadsLevel level depth text.now at nodes.old nodes.new result }
 {
     if level == 0 {
-        return term(text, at, depth, nodes, count);
+        return term(text, at, depth, nodes);
     }
     let below = level - 1;
     let sign = CHOP_SIGN - below;
-    let mut got = joined(text, at, depth, below, nodes, count)?;
-    while let Some(more) = leaf::sign(text, got.at, sign) {
-        let second = joined(text, more, depth, below, nodes, got.count)?;
-        got = Got {
-            at: second.at,
-            count: nodes::join(ops::CHOP + below, got.count, nodes, second.count),
-        };
+    let mut here = joined(text, at, depth, below, nodes)?;
+    while let Some(more) = leaf::sign(text, here, sign) {
+        let left = nodes.count;
+        here = joined(text, more, depth, below, nodes)?;
+        nodes.join(ops::CHOP + below, left);
     }
-    Some(got)
+    Some(here)
 }
 
 // A formula, in which `depth` more round brackets may be opened.
 #[cycle(bracket_formula_joined_term)]
-pub fn formula(text: &[u8], at: usize, depth: usize, nodes: &mut [u8], count: usize) -> Option<Got>
-    requires { Ready text.now at nodes.old count }
-    ensures { Reads before_f after put_or_f depth text.now at nodes.old count nodes.new result }
+pub fn formula(text: &[u8], at: usize, depth: usize, nodes: &mut Nodes) -> Option<usize>
+    requires { Ready text.now at nodes.old }
+    ensures { Reads before_f after put_or_f depth text.now at nodes.old nodes.new result }
 {
-    joined(text, at, depth, FORMULA, nodes, count)
+    joined(text, at, depth, FORMULA, nodes)
 }

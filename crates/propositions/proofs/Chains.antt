@@ -5,13 +5,12 @@ use native.Mathlib.Omega.{arith}
 use mathlib.Core.List.{List, ◌∷◌}
 use mathlib.Core.Logic.{◌⊎◌, inl, inr}
 use mathlib.Core.Path.{◌≡◌, sym, ap, ap₂, ◌∙◌}
-use lib.ListN.{length}
 use Rattle.grammar.specs.Token.{Token, plain}
 use Rattle.grammar.specs.Reader.{State, sign, run, answer}
-use Rattle.typed.specs.Draft.{Draft, draft, last, node, put, put_joined}
-use Rattle.propositions.specs.declared.Got.{Got}
-use Rattle.propositions.specs.Nodes.{Joinable, NodePut}
-use Rattle.propositions.specs.Reads.{ahead, Comes, Stuck, Ready, Took, Outside, Ended}
+use Rattle.typed.specs.Draft.{Draft, last, node, put, put_joined}
+use Rattle.propositions.specs.declared.nodes.Nodes.{Nodes}
+use Rattle.propositions.specs.Nodes.{so_far, NodePut}
+use Rattle.propositions.specs.Reads.{ahead, Comes, Stuck, Took, Outside, Ended}
 use Rattle.propositions.proofs.Went.{put_counted}
 
 -- One joiner: its node's op and its sign; what is read and put of a chain, and the signs that it takes; the same of an operand.
@@ -41,10 +40,10 @@ module _ {op joiner : ℕ} {K T K₁ T₁ : Type 0} {about : K → State} {has :
   chain_none out =
       record { fails = λ k. ap (λ s. answer (run room s (ahead text at))) (sym (chain.first_about k)) ∙ out.fails (chain.first k) }
 
-  module _ {x : List ℕ} {count : ℕ} where
+  module _ {x : Nodes} where
     -- the first operand
-    pub chain_first : {y : List ℕ} {r : Got} → Ended about₁ has₁ puts₁ Taken₁ room text at x count y r
-        → Ended about has puts Taken₁ room text at x count y r
+    pub chain_first : {y : Nodes} {r : ℕ} → Ended about₁ has₁ puts₁ Taken₁ room text at x y r
+        → Ended about has puts Taken₁ room text at x y r
     chain_first {r = r} ended =
         let w = ended.took in
         record {
@@ -53,8 +52,8 @@ module _ {op joiner : ℕ} {K T K₁ T₁ : Type 0} {about : K → State} {has :
                 tree = chain.single w.tree;
                 goes = λ k.
                     ap (λ s. answer (run room s (ahead text at))) (sym (chain.first_about k)) ∙ w.goes (chain.first k)
-                    ∙ ap (λ s. answer (run room s (ahead text r.at))) (chain.first_has k w.tree);
-                drafted = w.drafted ∙ sym (chain.first_puts w.tree (draft x count));
+                    ∙ ap (λ s. answer (run room s (ahead text r))) (chain.first_has k w.tree);
+                drafted = w.drafted ∙ sym (chain.first_puts w.tree (so_far x));
                 onward = w.onward;
                 within = w.within;
                 more = w.more;
@@ -66,12 +65,12 @@ module _ {op joiner : ℕ} {K T K₁ T₁ : Type 0} {about : K → State} {has :
         }
 
     -- what was read, and a joiner looked for after it
-    module _ {y : List ℕ} {got : Got} (ended : Ended about has puts Taken₁ room text at x count y got) where
-      t : Took about has puts room text at x count y got
+    module _ {y : Nodes} {got : ℕ} (ended : Ended about has puts Taken₁ room text at x y got) where
+      t : Took about has puts room text at x y got
       t = ended.took
 
       -- it is not there
-      pub chain_ends : Stuck (sign joiner) text got.at → Ended about has puts Taken room text at x count y got
+      pub chain_ends : Stuck (sign joiner) text got → Ended about has puts Taken room text at x y got
       unfolding t
       chain_ends never =
           record {
@@ -88,15 +87,7 @@ module _ {op joiner : ℕ} {K T K₁ T₁ : Type 0} {about : K → State} {has :
           }
 
       -- it is there
-      module _ {after : ℕ} (joins : Comes (plain joiner) text got.at after) where
-        pub chain_ready : Ready text at x count → length y ≡ length x → Ready text after y got.count
-        chain_ready ready same =
-            record {
-              area = same ∙ ready.area;
-              inside = joins.within;
-              taken = omega (arith, t.taken, joins.onward, ready.taken);
-            }
-
+      module _ {after : ℕ} (joins : Comes (plain joiner) text got after) where
         here : (k : K) → answer (run room (about k) (ahead text at)) ≡ answer (run room (about₁ (chain.next k t.tree)) (ahead text after))
         here k =
             t.goes k ∙ ap (λ ts. answer (run room (has k t.tree) ts)) joins.next
@@ -107,29 +98,14 @@ module _ {op joiner : ℕ} {K T K₁ T₁ : Type 0} {about : K → State} {has :
         chain_fails out = record { fails = λ k. here k ∙ out.fails (chain.next k t.tree) }
 
         -- an operand after it
-        module _ {z : List ℕ} {second : Got} (ended₁ : Ended about₁ has₁ puts₁ Taken₁ room text after y got.count z second) where
-          u : Took about₁ has₁ puts₁ room text after y got.count z second
+        module _ {z : Nodes} {second : ℕ} (ended₁ : Ended about₁ has₁ puts₁ Taken₁ room text after y z second) where
+          u : Took about₁ has₁ puts₁ room text after y z second
           u = ended₁.took
 
-          pub chain_joinable : Ready text at x count → length z ≡ length x → length text < 18446744073709551615
-              → Joinable op (got.count - 1) z second.count
-          chain_joinable ready same long =
-              record {
-                area = same ∙ ready.area;
-                op_fits = chain.op_fits;
-                counted = omega (arith, u.taken, u.within, t.taken, joins.onward, ready.taken);
-                below = omega (arith, u.more);
-              }
-
-          -- the place moves on
-          pub chain_less : length text - second.at < length text - got.at
-          chain_less = omega (arith, u.onward, u.within, joins.onward)
-
           -- both with the joiner's node
-          pub chain_turn : {w : List ℕ} {r : ℕ} → NodePut (node op 0 (got.count - 1) (second.count - 1)) z second.count w r
-              → Ended about has puts Taken₁ room text at x count w (record { at = second.at; count = r })
+          pub chain_turn : {w : Nodes} → NodePut (node op 0 (y.count - 1) (z.count - 1)) z w → Ended about has puts Taken₁ room text at x w second
           unfolding put_joined last u
-          chain_turn {w} {r} puts-node =
+          chain_turn puts-node =
               let one = put_counted puts-node in
               record {
                 took =
@@ -137,12 +113,12 @@ module _ {op joiner : ℕ} {K T K₁ T₁ : Type 0} {about : K → State} {has :
                       tree = chain.joined t.tree u.tree;
                       goes = λ k.
                           here k ∙ u.goes (chain.next k t.tree)
-                          ∙ ap (λ s. answer (run room s (ahead text second.at))) (chain.next_has k t.tree u.tree);
+                          ∙ ap (λ s. answer (run room s (ahead text second))) (chain.next_has k t.tree u.tree);
                       drafted =
                           puts-node.drafted
                           ∙ ap₂ (λ (d e : Draft). put (node op 0 (d.count - 1) (e.count - 1)) e) t.drafted
                           (u.drafted ∙ ap (puts₁ u.tree) t.drafted)
-                          ∙ sym (chain.next_puts t.tree u.tree (draft x count));
+                          ∙ sym (chain.next_puts t.tree u.tree (so_far x));
                       onward = omega (arith, t.onward, u.onward, joins.onward);
                       within = u.within;
                       more = omega (arith, one, t.more, u.more);

@@ -14,7 +14,6 @@ use Rattle.std.specs.Prelude.{Option, Some, None}
 use Rattle.std.proofs.lemmas.Option.{same_Some, none-some}
 use Rattle.semantics.proofs.Tests.{test}
 use Rattle.stored.specs.declared.Node.{Node}
-use Rattle.stored.specs.Written.{NodeFits}
 use Rattle.grammar.specs.Token.{Token, plain, signalled, named, number, outside, true_word, false_word, open_round, or_sign, and_sign, not_sign}
 use Rattle.grammar.specs.Tree.{OrP, one_p, or_p, unit_p, and_p, UnitP, trueP, falseP, signalP, nameP, not_p, bracket_p}
 use Rattle.grammar.specs.Reader.{no_or_p, after_or_p, no_and_p, after_and_p, HoleP, no_not_p, after_not_p, after_nots, nots}
@@ -25,14 +24,14 @@ use Rattle.grammar.proofs.Next.{or_p_lem, and_p_lem, no_piece_p}
 use Rattle.lexer.specs.declared.Lexed.{Lexed}
 use Rattle.lexer.specs.declared.Token.{Token as Lexeme}
 use Rattle.lexer.specs.declared.Token.TheVariants.{Plain, Signal, Name, Number, Outside as NoToken, End}
-use Rattle.lexer.specs.Lexed.{meant, is_end, Bounded, Next}
-use Rattle.typed.specs.Draft.{Draft, draft, added, last, node, put, put_over, put_or_p, put_and_p, put_unit_p}
-use Rattle.propositions.specs.declared.Got.{Got}
+use Rattle.lexer.specs.Lexed.{meant, is_end, Next}
+use Rattle.typed.specs.Draft.{Draft, added, last, node, put, put_over, put_or_p, put_and_p, put_unit_p}
 use Rattle.propositions.specs.declared.leaf.Leaf.{Leaf}
-use Rattle.propositions.specs.Nodes.{NodePut}
+use Rattle.propositions.specs.declared.nodes.Nodes.{Nodes}
+use Rattle.propositions.specs.Nodes.{so_far, NodePut}
 use Rattle.propositions.specs.Propositions.{about_both, has_both, ByAnd, ByOr, about_unit, has_unit, about_bracket_p, NoNot, Nots}
-use Rattle.propositions.specs.Propositions.{put_nots, Negatable, Negated, single}
-use Rattle.propositions.specs.Reads.{ahead, Comes, Stuck, Ready, Took, Outside, Reads, Ended, before_p, after, next as next_piece}
+use Rattle.propositions.specs.Propositions.{put_nots, Negated, single}
+use Rattle.propositions.specs.Reads.{ahead, Comes, Stuck, Took, Outside, Reads, Ended, before_p, after, next as next_piece}
 use Rattle.propositions.proofs.Chains.{Chain}
 use Rattle.propositions.proofs.Leaves.{comes, stuck_at, no_sign}
 use Rattle.propositions.proofs.Went.{went_none, went_leaf, took_alone, put_counted, either}
@@ -80,8 +79,8 @@ and_chain =
     }
 
 -- a piece takes no joiner
-pub unit_ended : {room : ℕ} {text : List ℕ} {at : ℕ} {x : List ℕ} {count : ℕ} {y : List ℕ} {r : Got}
-    → Took about_unit has_unit put_unit_p room text at x count y r → Ended about_unit has_unit put_unit_p ByNone room text at x count y r
+pub unit_ended : {room : ℕ} {text : List ℕ} {at : ℕ} {x y : Nodes} {r : ℕ}
+    → Took about_unit has_unit put_unit_p room text at x y r → Ended about_unit has_unit put_unit_p ByNone room text at x y r
 unit_ended took = record { took = took; stops = λ k n ts never there. absurd never }
 
 -- ---- what comes after a whole proposition
@@ -111,15 +110,15 @@ module _ {room : ℕ} {text : List ℕ} {at : ℕ} where
   pub whole_none : Outside about_or_p room text at → Outside before_p room text at
   whole_none out = record { fails = λ k. out.fails (λ p. sign k.wanted (k.onto p)) }
 
-  pub whole_took : {x : List ℕ} {count : ℕ} {y : List ℕ} {r : Got} → Ended about_or_p has_or_p put_or_p ByOr room text at x count y r
-      → Took before_p after put_or_p room text at x count y r
+  pub whole_took : {x y : Nodes} {r : ℕ} → Ended about_or_p has_or_p put_or_p ByOr room text at x y r
+      → Took before_p after put_or_p room text at x y r
   whole_took {r = r} ended =
       let w = ended.took in
       record {
         tree = w.tree;
         goes = λ k.
             w.goes (λ p. sign k.wanted (k.onto p))
-            ∙ settled room k.wanted k.onto w.tree (ahead text r.at) k.closing
+            ∙ settled room k.wanted k.onto w.tree (ahead text r) k.closing
             (λ m rest joiner there. ended.stops (λ p. sign k.wanted (k.onto p)) m rest joiner there);
         drafted = w.drafted;
         onward = w.onward;
@@ -180,50 +179,41 @@ unfolding put_nots
 nots_more zero d = refl
 nots_more (suc n) d = nots_more n (put_over 5 0 0 d)
 
-pub record Putting (x : List ℕ) (count : ℕ) (y : List ℕ) (whole done : ℕ) : Type 0 where
-  pub drafted : draft y whole ≡ put_nots done (draft x count)
-  pub counted : whole ≡ count + done
+pub record Putting (x y : Nodes) (done : ℕ) : Type 0 where
+  pub drafted : so_far y ≡ put_nots done (so_far x)
+  pub counted : y.count ≡ x.count + done
 
-module _ {x : List ℕ} {count : ℕ} where
-  pub putting_none : Putting x count x count 0
+module _ {x : Nodes} where
+  pub putting_none : Putting x x 0
   unfolding put_nots
   putting_none = record { drafted = refl; counted = omega arith }
 
-  pub putting_more : {y : List ℕ} {whole done : ℕ} → Putting x count y whole done → {z : List ℕ} {r : ℕ}
-      → NodePut (node 5 0 (whole - 1) 0) y whole z r → Putting x count z r (done + 1)
+  pub putting_more : {y : Nodes} {done : ℕ} → Putting x y done → {z : Nodes} → NodePut (node 5 0 (y.count - 1) 0) y z → Putting x z (done + 1)
   unfolding put_over last
   putting_more {done = done} putting p =
       record {
-        drafted = rw add-one (p.drafted ∙ ap (put_over 5 0 0) putting.drafted ∙ nots_more done (draft x count));
+        drafted = rw add-one (p.drafted ∙ ap (put_over 5 0 0) putting.drafted ∙ nots_more done (so_far x));
         counted = omega (arith, putting.counted, put_counted p);
       }
 
 -- a piece and the ! before it
 module _ {text : List ℕ} {at : ℕ} {signs : Leaf} (passed : Nots text at signs) where
-  pub bare_ready : {x : List ℕ} {count : ℕ} → Ready text at x count → Ready text signs.at x count
-  bare_ready ready = record { area = ready.area; inside = passed.inside ready.inside; taken = omega (arith, ready.taken, passed.taken) }
-
   module _ {room : ℕ} where
     pub negated_none : Outside about_unit room text signs.at → Outside about_unit room text at
     negated_none out = record { fails = λ k. ap answer (passed.goes room k.0 k.1) ∙ out.fails (after_nots signs.value k.0, k.1) }
 
-    module _ {x : List ℕ} {count : ℕ} {y : List ℕ} {got : Got} (took : Took about_unit has_unit put_unit_p room text signs.at x count y got) where
-      pub negatable : length text < 18446744073709551615 → Ready text at x count → length y ≡ length x → Negatable signs.value y got.count
-      negatable long ready same =
-          record { area = same ∙ ready.area; counted = omega (arith, took.taken, took.within, passed.taken, ready.taken) }
-
-      pub negated_took : {z : List ℕ} {r : ℕ} → Negated signs.value y got.count z r
-          → Took about_unit has_unit put_unit_p room text at x count z (record { at = got.at; count = r })
+    module _ {x y : Nodes} {to : ℕ} (took : Took about_unit has_unit put_unit_p room text signs.at x y to) where
+      pub negated_took : {z : Nodes} → Negated signs.value y z → Took about_unit has_unit put_unit_p room text at x z to
       unfolding has_unit_p has_or_p answer
-      negated_took {z} {r} negated =
+      negated_took {z} negated =
           let n = signs.value in
-          let more : r ≡ got.count + n = ap (λ (d : Draft). d.count) negated.drafted ∙ nots_count n (draft y got.count) in
+          let more : z.count ≡ y.count + n = ap (λ (d : Draft). d.count) negated.drafted ∙ nots_count n (so_far y) in
           record {
             tree = nots n took.tree;
             goes = λ k.
                 ap answer (passed.goes room k.0 k.1) ∙ took.goes (after_nots n k.0, k.1)
-                ∙ ap (λ p. answer (run room (has_or_p k.1 p) (ahead text got.at))) (fill_nots n k.0 took.tree);
-            drafted = negated.drafted ∙ ap (put_nots n) took.drafted ∙ sym (nots_put n took.tree (draft x count));
+                ∙ ap (λ p. answer (run room (has_or_p k.1 p) (ahead text to))) (fill_nots n k.0 took.tree);
+            drafted = negated.drafted ∙ ap (put_nots n) took.drafted ∙ sym (nots_put n took.tree (so_far x));
             onward = omega (arith, passed.taken, took.onward);
             within = took.within;
             more = omega (arith, more, took.more);
@@ -233,20 +223,18 @@ module _ {text : List ℕ} {at : ℕ} {signs : Leaf} (passed : Nots text at sign
 -- ---- a piece of one token
 pub record IsPiece (t : Lexeme) (x : Node) : Type 0 where
   pub known : is_end t ≡ false
-  pub fits : NodeFits x
   pub tree : UnitP
   pub goes : (room : ℕ) (w : HoleP × (OrP → State)) (ts : List Token) → run room (about_unit w) (meant t ∷ ts) ≡ run room (has_unit w tree) ts
   pub puts : (d : Draft) → put x d ≡ put_unit_p tree d
 
-pub is_piece : (t : Lexeme) (x : Node) → single t ≡ Some x → Bounded t → IsPiece t x
+pub is_piece : (t : Lexeme) (x : Node) → single t ≡ Some x → IsPiece t x
 unfolding computing meant is_end put_unit_p
-is_piece (Plain n) x e small =
+is_piece (Plain n) x e =
     elim (test (eqb n true_word)) [
       | inl t ↦
           let is : node 2 0 0 0 ≡ x = same_Some _ _ (rw t at e) in
           record {
             known = refl;
-            fits = rw (← is) (record { op_fits = omega arith; q_fits = omega arith; a_fits = omega arith; b_fits = omega arith });
             tree = trueP;
             goes = λ room w ts. rw (eqb-true n true_word t);
             puts = λ d. rw (← is);
@@ -256,7 +244,6 @@ is_piece (Plain n) x e small =
             let is : node 1 0 0 0 ≡ x = same_Some _ _ (rw (t, f) at e) in
             record {
               known = refl;
-              fits = rw (← is) (record { op_fits = omega arith; q_fits = omega arith; a_fits = omega arith; b_fits = omega arith });
               tree = falseP;
               goes = λ room w ts. rw (eqb-true n false_word f);
               puts = λ d. rw (← is);
@@ -264,27 +251,25 @@ is_piece (Plain n) x e small =
         | inr f ↦ absurd (none-some x (rw (t, f) at e))
       ]
     ]
-is_piece (Signal k) x e small =
+is_piece (Signal k) x e =
     let is : node 3 0 k 0 ≡ x = same_Some _ _ e in
     record {
       known = refl;
-      fits = rw (← is) (record { op_fits = omega arith; q_fits = omega arith; a_fits = omega arith; b_fits = omega arith });
       tree = signalP k;
       goes = λ room w ts. refl;
       puts = λ d. rw (← is);
     }
-is_piece (Name u) x e small =
+is_piece (Name u) x e =
     let is : node 4 0 u 0 ≡ x = same_Some _ _ e in
     record {
       known = refl;
-      fits = rw (← is) (record { op_fits = omega arith; q_fits = omega arith; a_fits = omega arith; b_fits = omega arith });
       tree = nameP u;
       goes = λ room w ts. refl;
       puts = λ d. rw (← is);
     }
-is_piece (Number n) x e small = absurd (none-some x e)
-is_piece NoToken x e small = absurd (none-some x e)
-is_piece End x e small = absurd (none-some x e)
+is_piece (Number n) x e = absurd (none-some x e)
+is_piece NoToken x e = absurd (none-some x e)
+is_piece End x e = absurd (none-some x e)
 
 pub no_piece : (t : Lexeme) → single t ≡ None → (t ≡ Plain not_sign → ⊥) → (t ≡ Plain open_round → ⊥) → (w : HoleP × (OrP → State))
     → step (about_unit w) (meant t) ≡ failed
@@ -328,21 +313,18 @@ module _ {text : List ℕ} {at : ℕ} {first : Lexed} (next : Next text at first
 
   module _ {x : Node} (is : Some x ≡ single first.token) where
     piece : IsPiece first.token x
-    piece = is_piece first.token x (sym is) next.bounded
+    piece = is_piece first.token x (sym is)
 
     there : Comes (meant first.token) text at first.at
     there = comes next first.token refl piece.known
 
-    pub single_fits : NodeFits x
-    single_fits = piece.fits
-
     -- it is the whole piece
-    pub single_took : {room : ℕ} {y : List ℕ} {count : ℕ} {z : List ℕ} {r : ℕ} → at ≤ length text → NodePut x y count z r
-        → Took about_unit has_unit put_unit_p room text at y count z (record { at = first.at; count = r })
-    single_took {room} {y} {count} inside p =
+    pub single_took : {room : ℕ} {y z : Nodes} → at ≤ length text → NodePut x y z
+        → Took about_unit has_unit put_unit_p room text at y z first.at
+    single_took {room} {y} inside p =
         let w = went_leaf room (λ w. has_unit w piece.tree) (went_none about_unit room text at inside) there
         (λ w ts. piece.goes room w ts) in
-        took_alone piece.tree w p (piece.puts (draft y count)) there.onward
+        took_alone piece.tree w p (piece.puts (so_far y)) there.onward
 
   -- it is an opening bracket
   module _ (opens : first.token ≡ Plain open_round) where
@@ -354,10 +336,10 @@ module _ {text : List ℕ} {at : ℕ} {first : Lexed} (next : Next text at first
         ap (λ ts. answer (run room (about_unit w) ts)) e ∙ ap answer (open_first w room (ahead text first.at))
         ∙ ap (λ ts. answer (run room (about_bracket_p (λ p. has_unit w (bracket_p p))) ts)) (sym e)
 
-    pub bracket_piece : (room : ℕ) (x : List ℕ) (count : ℕ) (y : List ℕ) (r : Option Got)
-        → Reads about_bracket_p next_piece put_or_p room text at x count y r → Reads about_unit has_unit put_unit_p room text at x count y r
+    pub bracket_piece : (room : ℕ) (x y : Nodes) (r : Option ℕ)
+        → Reads about_bracket_p next_piece put_or_p room text at x y r → Reads about_unit has_unit put_unit_p room text at x y r
     unfolding put_unit_p
-    bracket_piece room x count y r =
+    bracket_piece room x y r =
         either r (λ out. record { fails = λ w. begins room w ∙ out.fails (λ p. has_unit w (bracket_p p)) })
         (λ got t.
         record {

@@ -10,10 +10,10 @@ use Rattle.std.specs.Prelude.{Option, Some, None, MatchOption}
 use Rattle.grammar.specs.Token.{Token, plain, open_round, close_round}
 use Rattle.grammar.specs.Reader.{State, sign, run, answer}
 use Rattle.stored.specs.declared.Node.{Node}
-use Rattle.typed.specs.Draft.{Draft, draft, added, put as put_node}
-use Rattle.propositions.specs.declared.Got.{Got}
-use Rattle.propositions.specs.Reads.{ahead, Comes, Stuck, Ready, Took, Outside, Ended, Then, next, after}
-use Rattle.propositions.specs.Nodes.{NodePut}
+use Rattle.typed.specs.Draft.{Draft, added, put as put_node}
+use Rattle.propositions.specs.declared.nodes.Nodes.{Nodes}
+use Rattle.propositions.specs.Reads.{ahead, Comes, Stuck, Took, Outside, Ended, Then, next, after}
+use Rattle.propositions.specs.Nodes.{so_far, NodePut}
 use Rattle.propositions.specs.Lexemes.{Opens}
 use Rattle.propositions.proofs.Steps.{close_back}
 
@@ -29,12 +29,6 @@ went_none about room text at h = record { goes = λ k. refl; onward = omega arit
 pub went_open : {K : Type 0} {text : List ℕ} {at depth to : ℕ} (s : K → State) → Opens text at depth to
     → Went (λ k. sign open_round (s k)) depth text at (depth - 1) to s
 went_open s opens = record { goes = λ k. opens.goes (s k); onward = (let h = opens.onward in omega arith); within = opens.within }
-
--- after a bracket
-pub within_open : {text : List ℕ} {at depth : ℕ} {x : List ℕ} {count : ℕ} {to : ℕ} → Ready text at x count → Opens text at depth to
-    → Ready text to x count
-within_open ready opens =
-    record { area = ready.area; inside = opens.within; taken = let h = opens.onward in omega (arith, ready.taken) }
 
 -- the same of some of the states
 pub none_at : {K L : Type 0} {about : L → State} {room : ℕ} {text : List ℕ} {at : ℕ} (κ : K → L) → Outside about room text at
@@ -83,7 +77,7 @@ pub either : {A P P' : Type 0} {Q Q' : A → Type 0} (r : Option A) → (P → P
 either None f g p = f p
 either (Some x) f g q = g x q
 
-pub put_counted : {x : Node} {z : List ℕ} {before : ℕ} {y : List ℕ} {r : ℕ} → NodePut x z before y r → r ≡ suc before
+pub put_counted : {x : Node} {before after : Nodes} → NodePut x before after → after.count ≡ suc before.count
 unfolding put_node added
 put_counted p = ap (λ (d : Draft). d.count) p.drafted
 
@@ -94,14 +88,14 @@ pub none_from : {K : Type 0} {about about' : K → State} {room : ℕ} {text : L
 none_from goes out = record { fails = λ k. goes k ∙ out.fails k }
 
 module _ {K T : Type 0} {about : K → State} {has : K → T → State} {put : T → Draft → Draft} {room : ℕ} {text : List ℕ} {at : ℕ}
-    {x : List ℕ} {count : ℕ} where
-  pub went_took : {y : List ℕ} {r : Got} (t : Took about has put room text at x count y r) → Went about room text at room r.at (λ k. has k t.tree)
+    {x : Nodes} where
+  pub went_took : {y : Nodes} {to : ℕ} (t : Took about has put room text at x y to) → Went about room text at room to (λ k. has k t.tree)
   went_took t = record { goes = t.goes; onward = (let h = t.onward in omega arith); within = t.within }
 
   -- the same, from an earlier state and place
-  pub ended_from : {about' : K → State} {to : ℕ} {Taken : ℕ → Type 0} {y : List ℕ} {r : Got} → at ≤ to
+  pub ended_from : {about' : K → State} {to : ℕ} {Taken : ℕ → Type 0} {y : Nodes} {r : ℕ} → at ≤ to
       → ((k : K) → answer (run room (about k) (ahead text at)) ≡ answer (run room (about' k) (ahead text to)))
-      → Ended about' has put Taken room text to x count y r → Ended about has put Taken room text at x count y r
+      → Ended about' has put Taken room text to x y r → Ended about has put Taken room text at x y r
   ended_from onward goes ended =
       let t = ended.took in
       record {
@@ -119,11 +113,11 @@ module _ {K T : Type 0} {about : K → State} {has : K → T → State} {put : T
       }
 
   -- a piece that its last node ends
-  pub took_put : {last : Node} {z y : List ℕ} {before to r : ℕ} (t : T)
-      → Went about room text at room to (λ k. has k t) → NodePut last z before y r
-      → put_node last (draft z before) ≡ put t (draft x count)
-      → count ≤ before → before + at < count + to → at < to
-      → Took about has put room text at x count y (record { at = to; count = r })
+  pub took_put : {last : Node} {z y : Nodes} {to : ℕ} (t : T)
+      → Went about room text at room to (λ k. has k t) → NodePut last z y
+      → put_node last (so_far z) ≡ put t (so_far x)
+      → x.count ≤ z.count → z.count + at < x.count + to → at < to
+      → Took about has put room text at x y to
   took_put t w p same h₁ h₂ h₃ =
       let one = put_counted p in
       record {
@@ -137,20 +131,20 @@ module _ {K T : Type 0} {about : K → State} {has : K → T → State} {put : T
       }
 
   -- the same, of which none of these signs can be read after it
-  pub ended_put : {Taken : ℕ → Type 0} {last : Node} {z y : List ℕ} {before to r : ℕ} (t : T)
-      → Went about room text at room to (λ k. has k t) → NodePut last z before y r
-      → put_node last (draft z before) ≡ put t (draft x count)
-      → count ≤ before → before + at < count + to → at < to
+  pub ended_put : {Taken : ℕ → Type 0} {last : Node} {z y : Nodes} {to : ℕ} (t : T)
+      → Went about room text at room to (λ k. has k t) → NodePut last z y
+      → put_node last (so_far z) ≡ put t (so_far x)
+      → x.count ≤ z.count → z.count + at < x.count + to → at < to
       → ((k : K) (n : ℕ) (ts : List Token) → Taken n → ahead text to ≡ plain n ∷ ts → answer (run room (has k t) (plain n ∷ ts)) ≡ none)
-      → Ended about has put Taken room text at x count y (record { at = to; count = r })
+      → Ended about has put Taken room text at x y to
   unfolding took_put
   ended_put t w p same h₁ h₂ h₃ stops = record { took = took_put t w p same h₁ h₂ h₃; stops = stops }
 
   -- a piece of one node
-  pub took_alone : {last : Node} {y : List ℕ} {to r : ℕ} (t : T)
-      → Went about room text at room to (λ k. has k t) → NodePut last x count y r
-      → put_node last (draft x count) ≡ put t (draft x count) → at < to
-      → Took about has put room text at x count y (record { at = to; count = r })
+  pub took_alone : {last : Node} {y : Nodes} {to : ℕ} (t : T)
+      → Went about room text at room to (λ k. has k t) → NodePut last x y
+      → put_node last (so_far x) ≡ put t (so_far x) → at < to
+      → Took about has put room text at x y to
   took_alone t w p same h = took_put t w p same (omega arith) (omega arith) h
 
 -- ---- what was read in round brackets
@@ -168,16 +162,16 @@ module _ {T : Type 0} (about : (T → State) → State) {text : List ℕ} {at de
   pub bracket_inner_none : Outside (λ (k : Then T). about (λ t. sign k.wanted (k.onto t))) (depth - 1) text to → Outside bracketed depth text at
   bracket_inner_none out = fails_on closing open_went out
 
-  module _ {put : T → Draft → Draft} {x : List ℕ} {count : ℕ} {z : List ℕ} {inner : Got}
-      (t : Took (λ (k : Then T). about (λ t. sign k.wanted (k.onto t))) after put (depth - 1) text to x count z inner) where
-    inner_went : Went bracketed depth text at (depth - 1) inner.at (λ k. sign close_round (k t.tree))
+  module _ {put : T → Draft → Draft} {x z : Nodes} {inner : ℕ}
+      (t : Took (λ (k : Then T). about (λ t. sign k.wanted (k.onto t))) after put (depth - 1) text to x z inner) where
+    inner_went : Went bracketed depth text at (depth - 1) inner (λ k. sign close_round (k t.tree))
     inner_went = went_on closing open_went (went_took t)
 
-    pub bracket_close_none : Stuck (sign close_round) text inner.at → Outside bracketed depth text at
+    pub bracket_close_none : Stuck (sign close_round) text inner → Outside bracketed depth text at
     bracket_close_none never = fails_leaf (λ k. k t.tree) inner_went never
 
-    pub bracket_took : {end : ℕ} → Comes (plain close_round) text inner.at end
-        → Took bracketed next put depth text at x count z (record { at = end; count = inner.count })
+    pub bracket_took : {end : ℕ} → Comes (plain close_round) text inner end
+        → Took bracketed next put depth text at x z end
     bracket_took {end} leaf =
         let w = went_leaf depth (λ k. k t.tree) inner_went leaf (λ k ts. close_back depth (k t.tree) ts opens.roomy) in
         let o = opens.onward in

@@ -1,5 +1,5 @@
 -- What the readers of tokens, propositions and formulas promise one another.
+pub mod Nodes
 pub mod Reads
 pub mod Lexemes
-pub mod Nodes
 pub mod Propositions

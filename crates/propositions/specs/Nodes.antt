@@ -1,23 +1,25 @@
 -- A node put after others.
-use Rattle.std.specs.Prelude.{ℕ, ◌<◌, ◌*◌, List, ◌≡◌, length}
-use Rattle.stored.specs.Layout.{node_size, most_nodes}
+use Rattle.std.specs.Prelude.{ℕ, ◌<◌, ◌≡◌}
+use Rattle.stored.specs.Layout.{most_nodes}
 use Rattle.stored.specs.declared.Node.{Node}
 use Rattle.stored.specs.Written.{NodeFits}
-use Rattle.typed.specs.Draft.{draft, put}
+use Rattle.typed.specs.Draft.{Draft, draft, put}
+use Rattle.propositions.specs.declared.nodes.Nodes.{Nodes}
 
--- where a node may be put: an area, a count with room for one more, and fields that fit
-pub record Puttable (x : Node) (nodes : List ℕ) (count : ℕ) : Type 0 where
-  pub area : length nodes ≡ node_size * most_nodes
-  pub counted : count < 18446744073709551615
-  pub fits : count < most_nodes → NodeFits x
+-- what is drafted of them
+abbrev pub so_far : Nodes → Draft
+so_far nodes = draft nodes.bytes nodes.count
 
--- the node is put, and there are r then
-pub record NodePut (x : Node) (before : List ℕ) (count : ℕ) (after : List ℕ) (r : ℕ) : Type 0 where
-  pub drafted : draft after r ≡ put x (draft before count)
+-- where a node may be put: a count with room for one more, and fields that fit
+pub record Puttable (x : Node) (nodes : Nodes) : Type 0 where
+  pub counted : nodes.count < 18446744073709551615
+  pub fits : nodes.count < most_nodes → NodeFits x
+
+pub record NodePut (x : Node) (before after : Nodes) : Type 0 where
+  pub drafted : so_far after ≡ put x (so_far before)
 
 -- where a node over two operands may be put: the first ends in node `left`, the second in the last one
-pub record Joinable (op left : ℕ) (nodes : List ℕ) (count : ℕ) : Type 0 where
-  pub area : length nodes ≡ node_size * most_nodes
+pub record Joinable (op left : ℕ) (nodes : Nodes) : Type 0 where
   pub op_fits : op < 256
-  pub counted : count < 18446744073709551615
-  pub below : left < count
+  pub counted : nodes.count < 18446744073709551615
+  pub below : left < nodes.count

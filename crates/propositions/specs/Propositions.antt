@@ -1,15 +1,16 @@
 -- What the functions that read propositions promise one another; nobody need believe it. In the states about an operand, w says what
 -- stands around it and what comes after the whole.
-use Rattle.std.specs.Prelude.{List, ◌∷◌, cond, ◌⊎◌, ◌≡◌, ℕ, zero, suc, ◌+◌, ◌≤◌, ◌<◌, ◌*◌, eqb, length, Option, Some, None}
-use Rattle.stored.specs.Layout.{node_size, most_nodes}
+use Rattle.std.specs.Prelude.{List, ◌∷◌, cond, ◌⊎◌, ◌≡◌, ℕ, zero, suc, ◌+◌, ◌≤◌, ◌<◌, eqb, length, Option, Some, None}
 use Rattle.stored.specs.declared.Node.{Node}
 use Rattle.grammar.specs.Token.{plain, true_word, false_word, open_round, close_round, not_sign, or_sign, and_sign, Token}
 use Rattle.grammar.specs.Tree.{OrP, AndP, UnitP}
 use Rattle.grammar.specs.Reader.{OrHoleP, HoleP, State, sign, about_or_p, about_and_p, has_and_p, about_unit_p, has_unit_p, after_nots, run}
 use Rattle.lexer.specs.declared.Token.{Token as Lexeme}
 use Rattle.lexer.specs.declared.Token.TheVariants.{Plain, Signal, Name, Number, Outside, End}
-use Rattle.typed.specs.Draft.{Draft, draft, node, put_over}
+use Rattle.typed.specs.Draft.{Draft, node, put_over}
 use Rattle.propositions.specs.declared.leaf.Leaf.{Leaf}
+use Rattle.propositions.specs.declared.nodes.Nodes.{Nodes}
+use Rattle.propositions.specs.Nodes.{so_far}
 use Rattle.propositions.specs.Reads.{ahead}
 
 abbrev pub about_both : OrHoleP × (OrP → State) → State
@@ -45,13 +46,12 @@ pub record Nots (text : List ℕ) (at : ℕ) (r : Leaf) : Type 0 where
   pub inside : at ≤ length text → r.at ≤ length text
   pub bare : NoNot text r.at
 
--- where so many ! may be put over what was read
-pub record Negatable (signs : ℕ) (nodes : List ℕ) (count : ℕ) : Type 0 where
-  pub area : length nodes ≡ node_size * most_nodes
-  pub counted : count + signs < 18446744073709551615
+-- where so many ! may be put
+pub record Negatable (signs : ℕ) (nodes : Nodes) : Type 0 where
+  pub counted : nodes.count + signs < 18446744073709551615
 
-pub record Negated (signs : ℕ) (before : List ℕ) (count : ℕ) (after : List ℕ) (r : ℕ) : Type 0 where
-  pub drafted : draft after r ≡ put_nots signs (draft before count)
+pub record Negated (signs : ℕ) (before after : Nodes) : Type 0 where
+  pub drafted : so_far after ≡ put_nots signs (so_far before)
 
 -- the signs that a chain of & takes, and one of |
 abbrev pub ByAnd : ℕ → Type 0

@@ -1,15 +1,15 @@
 -- What the reading functions promise one another, in the terms of the grammar's reader; nobody need believe it. `about k` and `has k t`
 -- are the reader's states before and after what is read, where k says what comes after it.
-use Rattle.std.specs.Prelude.{ℕ, ◌+◌, ◌≤◌, ◌<◌, ◌*◌, Option, MatchOption, List, ◌∷◌, ◌⊎◌, ◌≡◌, length, drop}
+use Rattle.std.specs.Prelude.{ℕ, ◌+◌, ◌≤◌, ◌<◌, Option, MatchOption, List, ◌∷◌, ◌⊎◌, ◌≡◌, length, drop}
 use Rattle.std.proofs.Math.Option.{none}
-use Rattle.stored.specs.Layout.{node_size, most_nodes}
 use Rattle.stored.specs.Tree.{comparison_of}
 use Rattle.grammar.specs.Token.{Token, plain, signalled, named, number, comparison_sign, tokens}
 use Rattle.grammar.specs.Tree.{OrP, OrF}
 use Rattle.grammar.specs.Reader.{State, failed, sign, about_or_p, about_or_f, step, run, answer}
-use Rattle.typed.specs.Draft.{Draft, draft}
-use Rattle.propositions.specs.declared.Got.{Got}
+use Rattle.typed.specs.Draft.{Draft}
+use Rattle.propositions.specs.declared.nodes.Nodes.{Nodes}
 use Rattle.propositions.specs.declared.leaf.Leaf.{Leaf}
+use Rattle.propositions.specs.Nodes.{so_far}
 
 -- the tokens from a place of the text on
 abbrev pub ahead : List ℕ → ℕ → List Token
@@ -43,32 +43,30 @@ pub record Stuck {K : Type 0} (about : K → State) (text : List ℕ) (at : ℕ)
 abbrev pub Leafs : {K : Type 0} → (ℕ → Token) → (K → State) → List ℕ → ℕ → Option Leaf → Type 0
 Leafs token about text at r = MatchOption r (Stuck about text at) (λ leaf. Comes (token leaf.value) text at leaf.at)
 
--- where a piece may be read: an area for the nodes, of which each so far took a byte of the text
-pub record Ready (text : List ℕ) (at : ℕ) (nodes : List ℕ) (count : ℕ) : Type 0 where
-  pub area : length nodes ≡ node_size * most_nodes
+-- where a piece may be read: each node so far took a byte of the text
+pub record Ready (text : List ℕ) (at : ℕ) (nodes : Nodes) : Type 0 where
   pub inside : at ≤ length text
-  pub taken : count ≤ at
+  pub taken : nodes.count ≤ at
 
--- From `at` up to r's place the text says a tree, whatever comes after it. The tree's nodes are in the area now.
+-- From `at` up to another place the text says a tree, whatever comes after it. The tree's nodes came after x, which is y now.
 pub record Took {K T : Type 0} (about : K → State) (has : K → T → State) (put : T → Draft → Draft)
-    (room : ℕ) (text : List ℕ) (at : ℕ) (x : List ℕ) (count : ℕ) (y : List ℕ) (r : Got) : Type 0 where
+    (room : ℕ) (text : List ℕ) (at : ℕ) (x y : Nodes) (to : ℕ) : Type 0 where
   pub tree : T
-  pub goes : (k : K) → answer (run room (about k) (ahead text at)) ≡ answer (run room (has k tree) (ahead text r.at))
-  pub drafted : draft y r.count ≡ put tree (draft x count)
-  pub onward : at < r.at
-  pub within : r.at ≤ length text
+  pub goes : (k : K) → answer (run room (about k) (ahead text at)) ≡ answer (run room (has k tree) (ahead text to))
+  pub drafted : so_far y ≡ put tree (so_far x)
+  pub onward : at < to
+  pub within : to ≤ length text
   -- it has a node or more, and each took a byte of the text
-  pub more : count < r.count
-  pub taken : r.count + at ≤ count + r.at
+  pub more : x.count < y.count
+  pub taken : y.count + at ≤ x.count + to
 
 -- whatever comes after, the text is outside the grammar
 pub record Outside {K : Type 0} (about : K → State) (room : ℕ) (text : List ℕ) (at : ℕ) : Type 0 where
   pub fails : (k : K) → answer (run room (about k) (ahead text at)) ≡ none
 
 -- a tree was read, or none is there
-abbrev pub Reads : {K T : Type 0} → (K → State) → (K → T → State) → (T → Draft → Draft) → ℕ → List ℕ → ℕ → List ℕ → ℕ → List ℕ → Option Got
-    → Type 0
-Reads about has put room text at x count y r = MatchOption r (Outside about room text at) (Took about has put room text at x count y)
+abbrev pub Reads : {K T : Type 0} → (K → State) → (K → T → State) → (T → Draft → Draft) → ℕ → List ℕ → ℕ → Nodes → Nodes → Option ℕ → Type 0
+Reads about has put room text at x y r = MatchOption r (Outside about room text at) (Took about has put room text at x y)
 
 -- after a piece comes what k says of it
 abbrev pub next : {T : Type 0} → (T → State) → T → State
@@ -91,13 +89,12 @@ before_f k = about_or_f (λ f. sign k.wanted (k.onto f))
 
 -- Took, and what is read ends here: none of the signs that `Taken` names can be read after it.
 pub record Ended {K T : Type 0} (about : K → State) (has : K → T → State) (put : T → Draft → Draft)
-    (Taken : ℕ → Type 0) (room : ℕ) (text : List ℕ) (at : ℕ) (x : List ℕ) (count : ℕ) (y : List ℕ) (r : Got) : Type 0 where
-  pub took : Took about has put room text at x count y r
-  pub stops : (k : K) (n : ℕ) (ts : List Token) → Taken n → ahead text r.at ≡ plain n ∷ ts
+    (Taken : ℕ → Type 0) (room : ℕ) (text : List ℕ) (at : ℕ) (x y : Nodes) (to : ℕ) : Type 0 where
+  pub took : Took about has put room text at x y to
+  pub stops : (k : K) (n : ℕ) (ts : List Token) → Taken n → ahead text to ≡ plain n ∷ ts
       → answer (run room (has k took.tree) (plain n ∷ ts)) ≡ none
 
 -- Reads, and what is read ends there.
-abbrev pub Closes : {K T : Type 0} → (K → State) → (K → T → State) → (T → Draft → Draft) → (ℕ → Type 0) → ℕ → List ℕ → ℕ → List ℕ → ℕ
-    → List ℕ → Option Got → Type 0
-Closes about has put Taken room text at x count y r =
-    MatchOption r (Outside about room text at) (Ended about has put Taken room text at x count y)
+abbrev pub Closes : {K T : Type 0} → (K → State) → (K → T → State) → (T → Draft → Draft) → (ℕ → Type 0) → ℕ → List ℕ → ℕ → Nodes → Nodes
+    → Option ℕ → Type 0
+Closes about has put Taken room text at x y r = MatchOption r (Outside about room text at) (Ended about has put Taken room text at x y)

@@ -37,7 +37,8 @@ pub fn opened(text: &[u8], at: usize, depth: usize) -> Option<usize>
     sign(text, at, OPEN_ROUND)
 }
 
-// A number of at most 65,535.
+// A number of at most 65,535. `name` and `signal` differ from it in the pattern alone, which cannot be passed: one function of the three
+// would take a closure with this same match.
 pub fn number(text: &[u8], at: usize) -> Option<Leaf>
     ensures { Leafs number a_number text.now at result }
 {

@@ -5,10 +5,3 @@ pub mod leaf;
 pub mod nodes;
 pub mod proposition;
 pub mod words;
-
-// The place after a piece that was read, and how many nodes there are with its own.
-#[derive(Clone, Copy)]
-pub struct Got {
-    pub at: usize,
-    pub count: usize,
-}

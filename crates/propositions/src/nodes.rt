@@ -1,35 +1,46 @@
-// Nodes put over those of what was read.
+// The nodes of what was read, in the order in which they were put.
 ghost use Rattle.std.specs.Prelude.{◌-◌};
 ghost use Rattle.typed.specs.Draft.{node};
 ghost use Rattle.propositions.specs.Nodes.{Puttable, NodePut, Joinable};
 
-use stored::Node;
+use stored::{Node, layout};
 use typed::draft;
 
-// One node more over the last of so many; the answer is how many there are with it.
-pub fn over(op: usize, q: usize, b: usize, nodes: &mut [u8], count: usize) -> usize
-    requires { Puttable (node op q (count - 1) b) nodes.old count }
-    ensures { NodePut (node op q (count - 1) b) nodes.old count nodes.new result }
-{
-    let x = Node {
-        op,
-        q,
-        a: count.saturating_sub(1),
-        b,
-    };
-    draft::put(nodes, count, x)
+// The bytes of the most nodes.
+pub const NODE_BYTES: usize = layout::NODE_SIZE * layout::MOST_NODES;
+
+// The bytes of the nodes, and how many there are, also where they are too many for the bytes.
+#[derive(Drop)]
+pub struct Nodes {
+    pub bytes: [u8; NODE_BYTES],
+    pub count: usize,
 }
 
-// One node more over two operands, of which the first has the last of the first `left` nodes, and the second the last of all.
-pub fn join(op: usize, left: usize, nodes: &mut [u8], count: usize) -> usize
-    requires { Joinable op (left - 1) nodes.old count }
-    ensures { NodePut (node op 0 (left - 1) (count - 1)) nodes.old count nodes.new result }
-{
-    let x = Node {
-        op,
-        q: 0,
-        a: left.saturating_sub(1),
-        b: count.saturating_sub(1),
-    };
-    draft::put(nodes, count, x)
+impl Nodes {
+    // One node more.
+    pub fn put(&mut self, x: Node)
+        requires { Puttable x self.old }
+        ensures { NodePut x self.old self.new }
+    {
+        self.count = draft::put(&mut self.bytes, self.count, x);
+    }
+
+    // One node more over the last one.
+    pub fn over(&mut self, op: usize, q: usize, b: usize)
+        requires { Puttable (node op q (self.old.count - 1) b) self.old }
+        ensures { NodePut (node op q (self.old.count - 1) b) self.old self.new }
+    {
+        let a = self.count.saturating_sub(1);
+        self.put(Node { op, q, a, b });
+    }
+
+    // One node more over two operands: of the first `left` nodes the last, and the last of all.
+    pub fn join(&mut self, op: usize, left: usize)
+        requires { Joinable op (left - 1) self.old }
+        ensures { NodePut (node op 0 (left - 1) (self.old.count - 1)) self.old self.new }
+    {
+        let a = left.saturating_sub(1);
+        let b = self.count.saturating_sub(1);
+        self.put(Node { op, q: 0, a, b });
+    }
 }

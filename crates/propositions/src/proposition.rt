@@ -5,12 +5,12 @@ ghost use Rattle.propositions.specs.Propositions.{about_both, has_both, ByAnd, a
 ghost use Rattle.propositions.specs.Propositions.{Negatable, Negated, single};
 ghost use Rattle.propositions.specs.Reads.{Ready, Reads, Closes, before_p, after, next};
 
+use crate::leaf;
 use crate::leaf::Leaf;
+use crate::nodes::Nodes;
 use crate::words::{AND_SIGN, CLOSE_ROUND, FALSE_WORD, NOT_SIGN, OPEN_ROUND, OR_SIGN, TRUE_WORD};
-use crate::{Got, leaf, nodes};
 use lexer::{Token, next};
 use stored::{Node, ops};
-use typed::draft;
 
 // How many ! there are from `at` on, and the place after them.
 fn nots(text: &[u8], at: usize) -> Leaf
@@ -29,16 +29,14 @@ fn nots(text: &[u8], at: usize) -> Leaf
     }
 }
 
-// So many times a ! over the last node; the answer is how many nodes there are then.
-fn negate(signs: usize, nodes: &mut [u8], count: usize) -> usize
-    requires { Negatable signs nodes.old count }
-    ensures { Negated signs nodes.old count nodes.new result }
+// So many times a ! over the last node.
+fn negate(signs: usize, nodes: &mut Nodes)
+    requires { Negatable signs nodes.old }
+    ensures { Negated signs nodes.old nodes.new }
 {
-    let mut whole = count;
     for _ in 0..signs {
-        whole = nodes::over(ops::NOT_P, 0, 0, nodes, whole);
+        nodes.over(ops::NOT_P, 0, 0);
     }
-    whole
 }
 
 // The node of a piece of one token: true, false, a signal or a name.
@@ -57,87 +55,70 @@ fn single(token: Token) -> Option<Node>
 
 // A proposition in round brackets, from the first bracket on.
 #[cycle(atom_both_bracket_proposition_unit)]
-pub fn bracket(text: &[u8], at: usize, depth: usize, nodes: &mut [u8], count: usize) -> Option<Got>
-    requires { Ready text.now at nodes.old count }
-    ensures { Reads about_bracket_p next put_or_p depth text.now at nodes.old count nodes.new result }
+pub fn bracket(text: &[u8], at: usize, depth: usize, nodes: &mut Nodes) -> Option<usize>
+    requires { Ready text.now at nodes.old }
+    ensures { Reads about_bracket_p next put_or_p depth text.now at nodes.old nodes.new result }
 {
     let open = leaf::opened(text, at, depth)?;
-    let inner = proposition(text, open, depth - 1, nodes, count)?;
-    let close = leaf::sign(text, inner.at, CLOSE_ROUND)?;
-    Some(Got {
-        at: close,
-        count: inner.count,
-    })
+    let inner = proposition(text, open, depth - 1, nodes)?;
+    leaf::sign(text, inner, CLOSE_ROUND)
 }
 
 // A piece before which there is no !: a single token, or a proposition in round brackets.
 #[cycle(atom_both_bracket_proposition_unit)]
-fn atom(text: &[u8], at: usize, depth: usize, nodes: &mut [u8], count: usize) -> Option<Got>
-    requires ready { Ready text.now at nodes.old count }
+fn atom(text: &[u8], at: usize, depth: usize, nodes: &mut Nodes) -> Option<usize>
+    requires ready { Ready text.now at nodes.old }
     requires no_not { NoNot text.now at }
-    ensures { Reads about_unit has_unit put_unit_p depth text.now at nodes.old count nodes.new result }
+    ensures { Reads about_unit has_unit put_unit_p depth text.now at nodes.old nodes.new result }
 {
     let first = next(text, at);
     if first.token == Token::Plain(OPEN_ROUND) {
-        return bracket(text, at, depth, nodes, count);
+        return bracket(text, at, depth, nodes);
     }
     let node = single(first.token)?;
-    Some(Got {
-        at: first.at,
-        count: draft::put(nodes, count, node),
-    })
+    nodes.put(node);
+    Some(first.at)
 }
 
 // A piece with the ! before it.
 #[cycle(atom_both_bracket_proposition_unit)]
-fn unit(text: &[u8], at: usize, depth: usize, nodes: &mut [u8], count: usize) -> Option<Got>
-    requires { Ready text.now at nodes.old count }
-    ensures { Reads about_unit has_unit put_unit_p depth text.now at nodes.old count nodes.new result }
+fn unit(text: &[u8], at: usize, depth: usize, nodes: &mut Nodes) -> Option<usize>
+    requires { Ready text.now at nodes.old }
+    ensures { Reads about_unit has_unit put_unit_p depth text.now at nodes.old nodes.new result }
 {
     let signs = nots(text, at);
-    let got = atom(text, signs.at, depth, nodes, count)?;
-    Some(Got {
-        at: got.at,
-        count: negate(signs.value, nodes, got.count),
-    })
+    let after = atom(text, signs.at, depth, nodes)?;
+    negate(signs.value, nodes);
+    Some(after)
 }
 
-// Pieces joined by &.
+// Pieces joined by &. It differs from `proposition` in its operands, its sign and its op: one function of the two would have to tell at
+// each of these places which it is.
 #[cycle(atom_both_bracket_proposition_unit)]
-fn both(text: &[u8], at: usize, depth: usize, nodes: &mut [u8], count: usize) -> Option<Got>
-    requires { Ready text.now at nodes.old count }
-    ensures { Closes about_both has_both put_and_p ByAnd depth text.now at nodes.old count nodes.new result }
+fn both(text: &[u8], at: usize, depth: usize, nodes: &mut Nodes) -> Option<usize>
+    requires { Ready text.now at nodes.old }
+    ensures { Closes about_both has_both put_and_p ByAnd depth text.now at nodes.old nodes.new result }
 {
-    let mut got = unit(text, at, depth, nodes, count)?;
-    while let Some(joiner) = leaf::sign(text, got.at, AND_SIGN) {
-        let second = unit(text, joiner, depth, nodes, got.count)?;
-        got = Got {
-            at: second.at,
-            count: nodes::join(ops::AND_P, got.count, nodes, second.count),
-        };
+    let mut here = unit(text, at, depth, nodes)?;
+    while let Some(joiner) = leaf::sign(text, here, AND_SIGN) {
+        let left = nodes.count;
+        here = unit(text, joiner, depth, nodes)?;
+        nodes.join(ops::AND_P, left);
     }
-    Some(got)
+    Some(here)
 }
 
 // A proposition, in which `depth` more round brackets may be opened.
 #[cycle(atom_both_bracket_proposition_unit)]
-pub fn proposition(
-    text: &[u8],
-    at: usize,
-    depth: usize,
-    nodes: &mut [u8],
-    count: usize,
-) -> Option<Got>
-    requires { Ready text.now at nodes.old count }
-    ensures { Reads before_p after put_or_p depth text.now at nodes.old count nodes.new result }
+pub fn proposition(text: &[u8], at: usize, depth: usize, nodes: &mut Nodes) -> Option<usize>
+    requires { Ready text.now at nodes.old }
+    ensures { Reads before_p after put_or_p depth text.now at nodes.old nodes.new result }
 {
-    let mut got = both(text, at, depth, nodes, count)?;
-    while let Some(joiner) = leaf::sign(text, got.at, OR_SIGN) {
-        let second = both(text, joiner, depth, nodes, got.count)?;
-        got = Got {
-            at: second.at,
-            count: nodes::join(ops::OR_P, got.count, nodes, second.count),
-        };
+    let mut here = both(text, at, depth, nodes)?;
+    while let Some(joiner) = leaf::sign(text, here, OR_SIGN) {
+        let left = nodes.count;
+        here = both(text, joiner, depth, nodes)?;
+        nodes.join(ops::OR_P, left);
     }
-    Some(got)
+    Some(here)
 }

@@ -13,7 +13,7 @@ use Rattle.grammar.specs.Reader.{State, failed, sign, a_clause, step, run, answe
 use Rattle.grammar.proofs.Said.{computing}
 use Rattle.grammar.proofs.Next.{open_sign}
 use Rattle.typed.specs.Meaning.{parts_of}
-use Rattle.typed.specs.Draft.{Draft, draft, last, put_part, put_parts, roots_of, part_mask, type_number, fields_of, added, put_clause, Sketch, put_typed}
+use Rattle.typed.specs.Draft.{Draft, last, put_part, put_parts, roots_of, part_mask, type_number, fields_of, added, put_clause, Sketch, put_typed}
 use Rattle.typed.proofs.Clauses.{mask_small}
 use Rattle.propositions.specs.declared.leaf.Leaf.{Leaf}
 use Rattle.propositions.specs.Lexemes.{is_word, awaited, word_from, WordComes}
@@ -23,14 +23,17 @@ use Rattle.propositions.proofs.Steps.{comma_run, close_run}
 use Rattle.propositions.proofs.Went.{Went, went_none, went_leaf, went_on, fails_leaf, fails_on}
 use Rattle.text.specs.declared.part.GotPart.{GotPart}
 use Rattle.text.specs.declared.clause.GotParts.{GotParts}
-use Rattle.text.specs.Parts.{some_part, PartTook, the_parts, fields_from, PartsTook, LastNode, WithFirst, Drawn, LineTook, has_clause}
+use Rattle.propositions.specs.declared.nodes.Nodes.{Nodes}
+use Rattle.propositions.specs.Nodes.{so_far}
+use Rattle.text.specs.declared.clause.Clauses.{Clauses}
+use Rattle.text.specs.Parts.{some_part, PartTook, the_parts, fields_from, PartsTook, LastNode, with_first, clauses_so_far, ClausePut, Drawn, LineTook, has_clause}
 
 -- ---- parts one after another
 -- a part's root, where there are at most 64 nodes
-root_is : (count : ℕ) (x y : List ℕ) (d : TypedPart) (to root : ℕ) → draft y to ≡ put_part d (draft x count) → LastNode to root
-    → to ≤ 64 → root ≡ last (put_part d (draft x count))
+root_is : (x y : Nodes) (d : TypedPart) (root : ℕ) → so_far y ≡ put_part d (so_far x) → LastNode y.count root → y.count ≤ 64
+    → root ≡ last (put_part d (so_far x))
 unfolding last
-root_is count x y d to root drafted is few = is.root few ∙ ap (λ (e : Draft). e.count - 1) drafted
+root_is x y d root drafted is few = is.root few ∙ ap (λ (e : Draft). e.count - 1) drafted
 
 mask_fits : (d : TypedPart) (mask : ℕ) → mask ≡ part_mask d → mask < 256
 unfolding part_mask
@@ -69,17 +72,15 @@ unfolding the_parts
 parts_none zero out = record { fails = λ s. out.fails (close_round, λ d. s (d ∷ [])) }
 parts_none (suc n) out = record { fails = λ s. out.fails (comma_sign, λ d. the_parts n (λ ds. s (d ∷ ds))) }
 
-module _ {room type role : ℕ} {text : List ℕ} {at : ℕ} {x : List ℕ} {count : ℕ} where
+module _ {room type role : ℕ} {text : List ℕ} {at : ℕ} {x : Nodes} where
   -- a part alone
-  pub one_took : {n : ℕ} {y : List ℕ} {p : GotPart} {r : GotParts} → n ≡ 0 → type < 256 → role < 256 → PartTook room text at x count y p
-      → WithFirst p (record { at = p.at; count = p.count; fields = bare type role }) r
-      → PartsTook n room type role text at x count y r
+  pub one_took : {n : ℕ} {y : Nodes} {p : GotPart} {r : GotParts} → n ≡ 0 → type < 256 → role < 256 → PartTook room text at x y p
+      → r ≡ with_first p (record { at = p.at; fields = bare type role })
+      → PartsTook n room type role text at x y r
   unfolding the_parts put_parts roots_of
   one_took {y = y} {p = p} alone h₁ h₂ d with =
-      let root = with.root in
-      let is = with.last_node in
-      let small = is.fits in
-      rw (alone, with.is)
+      let small = d.last_node.fits in
+      rw (alone, with)
       (record {
         trees = d.tree ∷ [];
         as_many = refl;
@@ -87,9 +88,9 @@ module _ {room type role : ℕ} {text : List ℕ} {at : ℕ} {x : List ℕ} {cou
         drafted = d.drafted;
         fields = λ few.
             ap₂ (λ (root mask : ℕ). shifted root mask (bare type role))
-            (root_is count x y d.tree p.count root d.drafted is few) d.mask
-            ∙ ap (shifted (last (put_part d.tree (draft x count))) (part_mask d.tree)) (fields_bare type role)
-            ∙ fields_shifted type role (last (put_part d.tree (draft x count))) (part_mask d.tree) [] [];
+            (root_is x y d.tree p.root d.drafted d.last_node few) d.mask
+            ∙ ap (shifted (last (put_part d.tree (so_far x))) (part_mask d.tree)) (fields_bare type role)
+            ∙ fields_shifted type role (last (put_part d.tree (so_far x))) (part_mask d.tree) [] [];
         fits =
             record {
               type_fits = h₁;
@@ -108,8 +109,8 @@ module _ {room type role : ℕ} {text : List ℕ} {at : ℕ} {x : List ℕ} {cou
       })
 
 -- a part, a comma and the others
-module _ {room : ℕ} {text : List ℕ} {at : ℕ} {x : List ℕ} {count : ℕ} where
-  module _ {m n : ℕ} (one : m ≡ suc n) {w : List ℕ} {p : GotPart} (d : PartTook room text at x count w p) where
+module _ {room : ℕ} {text : List ℕ} {at : ℕ} {x : Nodes} where
+  module _ {m n : ℕ} (one : m ≡ suc n) {w : Nodes} {p : GotPart} (d : PartTook room text at x w p) where
     -- what comes after the first part e
     next : (List TypedPart → State) → TypedPart → State
     next s e = the_parts n (λ ds. s (e ∷ ds))
@@ -130,12 +131,10 @@ module _ {room : ℕ} {text : List ℕ} {at : ℕ} {x : List ℕ} {count : ℕ} 
       unfolding next
       no_others out = rw one (fails_on (λ s ds. s (d.tree ∷ ds)) to_others out)
 
-      module _ {type role : ℕ} {y : List ℕ} {q : GotParts} (ds : PartsTook n room type role text comma w p.count y q) where
-        shifted_took : (root : ℕ) → LastNode p.count root
-            → PartsTook (suc n) room type role text at x count y
-            (record { at = q.at; count = q.count; fields = shifted root p.mask q.fields })
+      module _ {type role : ℕ} {y : Nodes} {q : GotParts} (ds : PartsTook n room type role text comma w y q) where
+        shifted_took : PartsTook (suc n) room type role text at x y (with_first p q)
         unfolding next put_parts roots_of
-        shifted_took root is =
+        shifted_took =
             let h₁ = d.onward in
             let h₂ = joins.onward in
             let h₃ = ds.onward in
@@ -143,7 +142,7 @@ module _ {room : ℕ} {text : List ℕ} {at : ℕ} {x : List ℕ} {count : ℕ} 
             let h₅ = ds.taken in
             let h₆ = d.more in
             let h₇ = ds.more in
-            let h₈ = is.fits in
+            let h₈ = d.last_node.fits in
             let fit = ds.fits in
             record {
               trees = d.tree ∷ ds.trees;
@@ -152,11 +151,11 @@ module _ {room : ℕ} {text : List ℕ} {at : ℕ} {x : List ℕ} {count : ℕ} 
               drafted = ds.drafted ∙ ap (put_parts ds.trees) d.drafted;
               fields = λ few.
                   ap₂ (λ (root mask : ℕ). shifted root mask q.fields)
-                  (root_is count x w d.tree p.count root d.drafted is (omega arith)) d.mask
-                  ∙ ap (shifted (last (put_part d.tree (draft x count))) (part_mask d.tree))
+                  (root_is x w d.tree p.root d.drafted d.last_node (omega arith)) d.mask
+                  ∙ ap (shifted (last (put_part d.tree (so_far x))) (part_mask d.tree))
                   (ds.fields few ∙ ap (λ (e : Draft). fields_from type role (roots_of ds.trees e) (map part_mask ds.trees)) d.drafted)
-                  ∙ fields_shifted type role (last (put_part d.tree (draft x count))) (part_mask d.tree)
-                  (roots_of ds.trees (put_part d.tree (draft x count))) (map part_mask ds.trees);
+                  ∙ fields_shifted type role (last (put_part d.tree (so_far x))) (part_mask d.tree)
+                  (roots_of ds.trees (put_part d.tree (so_far x))) (map part_mask ds.trees);
               fits =
                   record {
                     type_fits = fit.type_fits;
@@ -174,8 +173,8 @@ module _ {room : ℕ} {text : List ℕ} {at : ℕ} {x : List ℕ} {count : ℕ} 
               taken = omega arith;
             }
 
-        pub more_took : {r : GotParts} → WithFirst p q r → PartsTook m room type role text at x count y r
-        more_took first = rw (one, first.is) (shifted_took first.root first.last_node)
+        pub more_took : {r : GotParts} → r ≡ with_first p q → PartsTook m room type role text at x y r
+        more_took with = rw (one, with) shifted_took
 
 -- as many parts as the type uses
 pub used-some : (v : ℕ) → v ≤ 5 → 1 ≤ parts_used (v + 1)
@@ -281,17 +280,15 @@ one_more : (x : StoredClause) (d : Draft) → (put_clause x d).count ≡ suc d.c
 unfolding put_clause added
 one_more x d = refl
 
-clause_drawn : (role : ℕ) (c : TypedClause) (x : List ℕ) (count : ℕ) (u : List ℕ) (many : ℕ) (y v : List ℕ) (r : GotParts) (next : ℕ)
-    → draft y r.count ≡ put_parts (parts_of c) (draft x count)
-    → (r.count ≤ 64 → r.fields ≡ fields_of role c (draft x count)) → count < r.count
-    → draft v next ≡ put_clause r.fields (draft u many) → next ≡ suc many
-    → (z : Sketch) → Drawn z x count u many → Drawn (put_typed role c z) y r.count v next
+clause_drawn : (role : ℕ) (c : TypedClause) {fields : StoredClause} {x y : Nodes} {u v : Clauses} → so_far y ≡ put_parts (parts_of c) (so_far x)
+    → (y.count ≤ 64 → fields ≡ fields_of role c (so_far x)) → x.count < y.count → ClausePut fields u v → v.count ≡ suc u.count
+    → (z : Sketch) → Drawn z x u → Drawn (put_typed role c z) y v
 unfolding put_typed
-clause_drawn role c x count u many y v r next drafted fields more put one z drawn =
+clause_drawn role c drafted fields more put one z drawn =
     record {
       nodes_drawn = drafted ∙ ap (put_parts (parts_of c)) drawn.nodes_drawn;
       clauses_drawn = λ few.
-          put ∙ ap₂ put_clause (fields few ∙ ap (fields_of role c) drawn.nodes_drawn) (drawn.clauses_drawn (omega arith));
+          put.drafted ∙ ap₂ put_clause (fields few ∙ ap (fields_of role c) drawn.nodes_drawn) (drawn.clauses_drawn (omega arith));
       counted = one ∙ ap suc drawn.counted ∙ sym (one_more (fields_of role c z.nodes) z.clauses);
     }
 
@@ -339,8 +336,8 @@ module _ {text : List ℕ} {at : ℕ} (start : at ≤ length text) {word : Leaf}
     pub no_parts : Outside (the_parts (used - 1)) 31 text bracket → Outside a_clause 32 text at
     no_parts out = fails_on (after_parts (word.value + 1)) to_parts out
 
-    module _ {role : ℕ} {x : List ℕ} {count : ℕ} {y : List ℕ} {q : GotParts}
-        (ds : PartsTook (used - 1) 31 (word.value + 1) role text bracket x count y q) where
+    module _ {role : ℕ} {x y : Nodes} {q : GotParts}
+        (ds : PartsTook (used - 1) 31 (word.value + 1) role text bracket x y q) where
       to_close : Went a_clause 32 text at 31 q.at (λ k. sign close_round (after_parts (word.value + 1) k ds.trees))
       to_close =
           went_on (after_parts (word.value + 1)) to_parts
@@ -349,11 +346,9 @@ module _ {text : List ℕ} {at : ℕ} (start : at ≤ length text) {word : Leaf}
       pub unclosed : Stuck (sign close_round) text q.at → Outside a_clause 32 text at
       unclosed never = fails_leaf (λ k. after_parts (word.value + 1) k ds.trees) to_close never
 
-      pub clause_took : {u : List ℕ} {many : ℕ} {v : List ℕ} {next close : ℕ} → Comes (plain close_round) text q.at close
-          → draft v next ≡ put_clause q.fields (draft u many)
-          → LineTook a_clause has_clause (put_typed role) text (record { at = at; count = count; many = many }) x u y v
-          (record { at = close; count = q.count; many = next })
-      clause_took {u = u} {many = many} {v = v} {next = next} {close} closed put =
+      pub clause_took : {u v : Clauses} {close : ℕ} → Comes (plain close_round) text q.at close → ClausePut q.fields u v
+          → LineTook a_clause has_clause (put_typed role) text at x u y v close
+      clause_took {u} {close = close} closed put =
           let type = word.value + 1 in
           let range = known.range in
           let f = formed type ds.trees (omega arith) (omega arith) (ds.as_many ∙ ap (λ used. suc (used - 1)) is-used) in
@@ -365,17 +360,17 @@ module _ {text : List ℕ} {at : ℕ} (start : at ≤ length text) {word : Leaf}
           let h₃ = ds.taken in
           let h₄ = closed.onward in
           let h₅ = ds.onward in
-          let one = ap (λ (d : Draft). d.count) put ∙ one_more q.fields (draft u many) in
+          let one = ap (λ (d : Draft). d.count) put.drafted ∙ one_more q.fields (clauses_so_far u) in
           record {
             tree = f.clause;
             goes = λ k. to-end.goes k ∙ ap (λ (s : State). answer (run 32 s (ahead text close))) (f.state k);
             drawn =
-                clause_drawn role f.clause x count u many y v q next
-                (ds.drafted ∙ ap (λ (es : List TypedPart). put_parts es (draft x count)) (sym f.parts))
+                clause_drawn role f.clause
+                (ds.drafted ∙ ap (λ (es : List TypedPart). put_parts es (so_far x)) (sym f.parts))
                 (λ few. ds.fields few
-                ∙ ap₂ (λ (t : ℕ) (es : List TypedPart). fields_from t role (roots_of es (draft x count)) (map part_mask es)) (sym f.type)
+                ∙ ap₂ (λ (t : ℕ) (es : List TypedPart). fields_from t role (roots_of es (so_far x)) (map part_mask es)) (sym f.type)
                 (sym f.parts)
-                ∙ fields_of_lem role f.clause (draft x count))
+                ∙ fields_of_lem role f.clause (so_far x))
                 ds.more put one;
             onward = omega arith;
             within = closed.within;

@@ -23,8 +23,9 @@ use Rattle.propositions.specs.Reads.{ahead, Comes, Stuck, Outside}
 use Rattle.propositions.proofs.Leaves.{apart, word_stuck}
 use Rattle.propositions.proofs.Steps.{sign_run, number_run}
 use Rattle.propositions.proofs.Went.{Went, went_none, went_leaf, went_on, fails_leaf, fails_on}
-use Rattle.text.specs.declared.clause.Drafted.{Drafted}
-use Rattle.text.specs.Parts.{finished, Before, a_line_after, has_line, has_clause, Drawn, nothing, LineReady, LineTook, all_lines, LinesTook, SheetTook}
+use Rattle.propositions.specs.declared.nodes.Nodes.{Nodes}
+use Rattle.text.specs.declared.clause.Clauses.{Clauses}
+use Rattle.text.specs.Parts.{finished, Before, a_line_after, has_line, has_clause, Drawn, LineReady, LineTook, all_lines, LinesTook, SheetTook}
 
 -- ---- the end of the text
 pub end_next : {text : List ℕ} {at : ℕ} {r : Lexed} → Next text at r → is_end r.token ≡ finished (ahead text at)
@@ -96,19 +97,19 @@ module _ {text : List ℕ} {at : ℕ} (start : at ≤ length text) {word : Leaf}
   pub no_clause : Outside a_clause 32 text word.at → Outside a_line_after 32 text at
   no_clause out = fails_on (rest word.value) to_clause out
 
-  module _ {count many : ℕ} {x u y v : List ℕ} {said : Drafted}
-      (c : LineTook a_clause has_clause (put_typed word.value) text (record { at = word.at; count = count; many = many }) x u y v said) where
-    to_end : Went a_line_after 32 text at 32 said.at (λ b. sign line_end (has_line b (role_line word.value c.tree)))
+  module _ {x : Nodes} {u : Clauses} {y : Nodes} {v : Clauses} {said : ℕ}
+      (c : LineTook a_clause has_clause (put_typed word.value) text word.at x u y v said) where
+    to_end : Went a_line_after 32 text at 32 said (λ b. sign line_end (has_line b (role_line word.value c.tree)))
     unfolding rest
     to_end =
         went_on (rest word.value) to_clause
         (record { goes = c.goes; onward = (let h = c.onward in omega arith); within = c.within })
 
-    pub no_end : Stuck (sign line_end) text said.at → Outside a_line_after 32 text at
+    pub no_end : Stuck (sign line_end) text said → Outside a_line_after 32 text at
     no_end never = fails_leaf (λ b. has_line b (role_line word.value c.tree)) to_end never
 
-    pub line_took : {end : ℕ} → Comes (plain line_end) text said.at end
-        → LineTook a_line_after has_line put_line text (record { at = at; count = count; many = many }) x u y v (record { at = end; count = said.count; many = said.many })
+    pub line_took : {end : ℕ} → Comes (plain line_end) text said end
+        → LineTook a_line_after has_line put_line text at x u y v end
     line_took ended =
         let l = role_line word.value c.tree in
         let w =
@@ -130,13 +131,13 @@ module _ {text : List ℕ} {at : ℕ} (start : at ≤ length text) {word : Leaf}
 
 -- ---- lines one after another
 -- those read from `at` up to `here`, into areas that were x and u and are y and v
-pub record LinesSoFar (text : List ℕ) (at : ℕ) (x u : List ℕ) (here : Drafted) (y v : List ℕ) : Type 0 where
+pub record LinesSoFar (text : List ℕ) (at : ℕ) (x : Nodes) (u : Clauses) (here : ℕ) (y : Nodes) (v : Clauses) : Type 0 where
   pub lines : List Line
-  pub goes : (s m : ℕ) → answer (run 32 (at_line s m []) (ahead text at)) ≡ answer (run 32 (at_line s m lines) (ahead text here.at))
-  pub drawn : (z : Sketch) → Drawn z x 0 u 0 → Drawn (put_lines lines z) y here.count v here.many
+  pub goes : (s m : ℕ) → answer (run 32 (at_line s m []) (ahead text at)) ≡ answer (run 32 (at_line s m lines) (ahead text here))
+  pub drawn : (z : Sketch) → Drawn z x u → Drawn (put_lines lines z) y v
   pub ready : LineReady text here y v
 
-pub no_lines : {text : List ℕ} {at : ℕ} {x u : List ℕ} → LineReady text (nothing at) x u → LinesSoFar text at x u (nothing at) x u
+pub no_lines : {text : List ℕ} {at : ℕ} {x : Nodes} {u : Clauses} → LineReady text at x u → LinesSoFar text at x u at x u
 unfolding put_lines
 no_lines ready = record { lines = []; goes = λ s m. refl; drawn = λ z drawn. drawn; ready = ready }
 
@@ -145,15 +146,15 @@ unfolding put_lines
 put_more [] l z = refl
 put_more (k ∷ ls) l z = put_more ls l (put_line k z)
 
-module _ {text : List ℕ} {at : ℕ} {x u : List ℕ} {here : Drafted} {y v : List ℕ} (far : LinesSoFar text at x u here y v) where
+module _ {text : List ℕ} {at : ℕ} {x : Nodes} {u : Clauses} {here : ℕ} {y : Nodes} {v : Clauses} (far : LinesSoFar text at x u here y v) where
   -- the lines so far, as what comes before the next
   before : ℕ × ℕ → Before
   before w = record { signals = w.0; names = w.1; lines = far.lines }
 
-  pub line_more : {y' v' : List ℕ} {said : Drafted} → LineTook a_line_after has_line put_line text here y v y' v' said
-      → length y' ≡ length y → length v' ≡ length v → LinesSoFar text at x u said y' v'
+  pub line_more : {y' : Nodes} {v' : Clauses} {said : ℕ} → LineTook a_line_after has_line put_line text here y v y' v' said
+      → LinesSoFar text at x u said y' v'
   unfolding before
-  line_more l same_nodes same-clauses =
+  line_more l =
       let was = far.ready in
       let h₁ = l.onward in
       let h₂ = l.taken in
@@ -166,25 +167,23 @@ module _ {text : List ℕ} {at : ℕ} {x u : List ℕ} {here : Drafted} {y v : L
         drawn = λ z drawn. rw (put_more far.lines l.tree z) (l.drawn (put_lines far.lines z) (far.drawn z drawn));
         ready =
             record {
-              nodes_area = same_nodes ∙ was.nodes_area;
-              clauses_area = same-clauses ∙ was.clauses_area;
               inside = l.within;
               nodes_taken = omega arith;
               clauses_taken = omega arith;
             };
       }
 
-  pub lines_took : {b : Bool} → b ≡ finished (ahead text here.at) → b ≡ true → LinesTook text at x u y v here
+  pub lines_took : {b : Bool} → b ≡ finished (ahead text here) → b ≡ true → LinesTook text at x u y v
   unfolding computing
   lines_took e last =
       record {
         lines = far.lines;
         goes = λ s m.
-            far.goes s m ∙ ap (λ (ts : List Token). answer (run 32 (at_line s m far.lines) ts)) (none_left (ahead text here.at) (sym e ∙ last));
+            far.goes s m ∙ ap (λ (ts : List Token). answer (run 32 (at_line s m far.lines) ts)) (none_left (ahead text here) (sym e ∙ last));
         drawn = far.drawn;
       }
 
-  pub lines_none : Outside a_line_after 32 text here.at → Outside all_lines 32 text at
+  pub lines_none : Outside a_line_after 32 text here → Outside all_lines 32 text at
   unfolding before
   lines_none out = record { fails = λ w. far.goes w.0 w.1 ∙ out.fails (before w) }
 
@@ -233,8 +232,8 @@ module _ {text : List ℕ} where
         pub no_lines_there : Outside all_lines 32 text end → parse 32 (tokens text) ≡ none
         no_lines_there out = parse_none (fails_on (λ k. (s.value, m.value)) to_lines out)
 
-        pub sheet_took : {x u y v : List ℕ} {said : Drafted} → LinesTook text end x u y v said
-            → SheetTook text x u y v (record { signals = s.value; names = m.value; count = said.count; many = said.many })
+        pub sheet_took : {x : Nodes} {u : Clauses} {y : Nodes} {v : Clauses} → LinesTook text end x u y v
+            → SheetTook text x u y v (record { signals = s.value; names = m.value })
         unfolding parse
         sheet_took ls =
             record {

@@ -20,13 +20,13 @@ use Rattle.grammar.proofs.Said.{computing}
 use Rattle.grammar.proofs.Room.{failed_none}
 use Rattle.typed.specs.Draft.{mask_of, put_part, put_or_f, part_mask}
 use Rattle.typed.proofs.Clauses.{mask_bit, mask_next}
-use Rattle.propositions.specs.declared.Got.{Got}
 use Rattle.propositions.specs.declared.leaf.Leaf.{Leaf}
+use Rattle.propositions.specs.declared.nodes.Nodes.{Nodes}
 use Rattle.propositions.specs.Reads.{ahead, Comes, Stuck, Outside, Took, Then, before_f, after}
 use Rattle.propositions.proofs.Leaves.{no_name}
 use Rattle.propositions.proofs.Steps.{sign_run}
 use Rattle.propositions.proofs.Went.{Went, went_at, went_leaf, went_took, fails_leaf}
-use Rattle.text.specs.Parts.{some_names, some_part, NamesTook, NamesTwice, PartTook}
+use Rattle.text.specs.Parts.{some_names, some_part, NamesTook, NamesTwice, LastNode, PartTook}
 
 -- ---- names one after another
 -- those read from `at` up to `here`
@@ -126,15 +126,15 @@ module _ {room : ℕ} {text : List ℕ} {at : ℕ} where
   unfolding about_part
   part_none out = record { fails = λ w. out.fails (colon_next w) }
 
-  module _ {x : List ℕ} {count : ℕ} {y : List ℕ} {got : Got} (f : Took before_f after put_or_f room text at x count y got) where
-    to_colon : Went some_part room text at room got.at (λ w. sign colon_sign (rest w f.tree))
+  module _ {x y : Nodes} {got : ℕ} (f : Took before_f after put_or_f room text at x y got) where
+    to_colon : Went some_part room text at room got (λ w. sign colon_sign (rest w f.tree))
     unfolding about_part
     to_colon = went_at colon_next (went_took f)
 
-    pub part_bare : Stuck (sign colon_sign) text got.at → Outside some_part room text at
+    pub part_bare : Stuck (sign colon_sign) text got → Outside some_part room text at
     part_bare never = fails_leaf (λ w. rest w f.tree) to_colon never
 
-    module _ {colon : ℕ} (coloned : Comes (plain colon_sign) text got.at colon) where
+    module _ {colon : ℕ} (coloned : Comes (plain colon_sign) text got colon) where
       to_names : Went some_part room text at room colon (λ w. rest w f.tree)
       to_names =
           went_leaf room (λ w. rest w f.tree) to_colon coloned
@@ -144,10 +144,10 @@ module _ {room : ℕ} {text : List ℕ} {at : ℕ} where
       part_twice names =
           record { fails = λ w. to_names.goes w ∙ names.fails room w.0 (λ us. w.1 (record { formula = f.tree; names = us })) }
 
-      pub part_took : {listed : Leaf} → NamesTook text colon listed
-          → PartTook room text at x count y (record { at = listed.at; count = got.count; mask = listed.value })
+      pub part_took : {listed : Leaf} {root : ℕ} → NamesTook text colon listed → LastNode y.count root
+          → PartTook room text at x y (record { at = listed.at; root = root; mask = listed.value })
       unfolding put_part part_mask
-      part_took us =
+      part_took us last =
           let h₁ = f.onward in
           let h₂ = coloned.onward in
           let h₃ = us.onward in
@@ -156,6 +156,7 @@ module _ {room : ℕ} {text : List ℕ} {at : ℕ} where
             tree = record { formula = f.tree; names = us.names };
             goes = λ n s. to_names.goes (n, s) ∙ us.goes room n (λ us. s (record { formula = f.tree; names = us }));
             drafted = f.drafted;
+            last_node = last;
             mask = us.mask;
             onward = omega arith;
             within = us.within coloned.within;

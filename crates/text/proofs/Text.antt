@@ -37,7 +37,10 @@ use Rattle.typed.specs.Draft.{Draft, draft, empty, sketch_of, too_many, sheet_by
 use Rattle.typed.proofs.Writing.{front_taken}
 use Rattle.typed.proofs.Sheet.{typed_clauses, typed_requirement, typed_verdict}
 use Rattle.text.specs.declared.sheet.GotSheet.{GotSheet}
-use Rattle.text.specs.Parts.{Drawn, SheetTook, draft_refusal}
+use Rattle.propositions.specs.declared.nodes.Nodes.{Nodes}
+use Rattle.propositions.specs.Nodes.{so_far}
+use Rattle.text.specs.declared.clause.Clauses.{Clauses}
+use Rattle.text.specs.Parts.{clauses_so_far, Drawn, SheetTook, draft_refusal}
 use Rattle.text.specs.Text.{said_refusal, RefusedBy, WrittenAs, ReadText}
 
 -- the sheet that was put together at the front of y
@@ -124,26 +127,26 @@ draft_small s m nodes clauses lent =
     small_judged (ltb most_nodes nodes.count || ltb most_clauses clauses.count) (ltb lent least_output) (sheet_bytes s m nodes clauses)
 
 -- ---- what was drawn from empty areas
-drawn_empty : Drawn empty (replicate 384 0) 0 (replicate 88 0) 0
+drawn_empty : Drawn empty (record { bytes = replicate 384 0; count = 0 }) (record { bytes = replicate 88 0; count = 0 })
 unfolding empty
 drawn_empty = record { nodes_drawn = refl; clauses_drawn = λ _. refl; counted = refl }
 
-module _ (t : TypedSheet) (nodes : List ℕ) (n : ℕ) (clauses : List ℕ) (c : ℕ) (drawn : Drawn (sketch_of t) nodes n clauses c) (lent : ℕ) where
-  bytes_same : n ≤ 64 → sheet_bytes t.signals t.names (draft nodes n) (draft clauses c) ≡ typed_bytes t
+module _ (t : TypedSheet) (nodes : Nodes) (clauses : Clauses) (drawn : Drawn (sketch_of t) nodes clauses) (lent : ℕ) where
+  bytes_same : nodes.count ≤ 64 → sheet_bytes t.signals t.names (so_far nodes) (clauses_so_far clauses) ≡ typed_bytes t
   unfolding typed_bytes
   bytes_same few = ap₂ (sheet_bytes t.signals t.names) drawn.nodes_drawn (drawn.clauses_drawn few)
 
-  many_same : (ltb most_nodes n || ltb most_clauses c) ≡ too_many t
+  many_same : (ltb most_nodes nodes.count || ltb most_clauses clauses.count) ≡ too_many t
   unfolding too_many
   many_same = ap₂ (λ (n c : ℕ). ltb most_nodes n || ltb most_clauses c) (ap (λ (d : Draft). d.count) drawn.nodes_drawn) drawn.counted
 
-  refusal_same : draft_refusal t.signals t.names (draft nodes n) (draft clauses c) lent ≡ said_refusal t lent
+  refusal_same : draft_refusal t.signals t.names (so_far nodes) (clauses_so_far clauses) lent ≡ said_refusal t lent
   unfolding draft_refusal said_refusal
   refusal_same =
-      elim (test (ltb most_nodes n || ltb most_clauses c)) [
+      elim (test (ltb most_nodes nodes.count || ltb most_clauses clauses.count)) [
         | inl e ↦ rw (← many_same, e)
         | inr e ↦
-            let few = ltb-false most_nodes n (or_false_left (ltb most_nodes n) (ltb most_clauses c) e) in
+            let few = ltb-false most_nodes nodes.count (or_false_left (ltb most_nodes nodes.count) (ltb most_clauses clauses.count) e) in
             ap₂
             (λ (many : Bool) (bytes : List ℕ).
             cond many 20 (cond (eqb (sheet_refusal bytes) 0) (cond (ltb lent least_output) 14 0) (sheet_refusal bytes)))
@@ -220,9 +223,9 @@ module _ (text x : List ℕ) where
     pub unread_outside : parse 32 (tokens text) ≡ none → ReadText text x x (Err OutsideGrammar)
     unread_outside bad = outside_grammar (outside_unread text shallow bad)
 
-    -- what the code read into the areas, which were empty
-    module _ (a b nodes clauses : List ℕ) (r : GotSheet) (a-empty : a ≡ replicate 384 0) (b-empty : b ≡ replicate 88 0)
-        (read : SheetTook text a b nodes clauses r) where
+    -- what the code read, where there was nothing before
+    module _ (a b : List ℕ) (nodes : Nodes) (clauses : Clauses) (r : GotSheet) (a-empty : a ≡ replicate 384 0) (b-empty : b ≡ replicate 88 0)
+        (read : SheetTook text (record { bytes = a; count = 0 }) (record { bytes = b; count = 0 }) nodes clauses r) where
       module _ (ends : Bool) (e₂ : ends ≡ ends_line text) (h₂ : ends ≡ true) where
         ended : ends_line text ≡ true
         ended = sym e₂ ∙ h₂
@@ -230,34 +233,34 @@ module _ (text x : List ℕ) where
         t : TypedSheet
         t = read.tree
 
-        drawn : Drawn (sketch_of t) nodes r.count clauses r.many
+        drawn : Drawn (sketch_of t) nodes clauses
         unfolding t sketch_of
         drawn = read.drawn empty (rw (a-empty, b-empty) drawn_empty)
 
-        number_same : draft_refusal r.signals r.names (draft nodes r.count) (draft clauses r.many) (length x) ≡ said_refusal t (length x)
+        number_same : draft_refusal r.signals r.names (so_far nodes) (clauses_so_far clauses) (length x) ≡ said_refusal t (length x)
         unfolding t
         number_same =
-            ap₂ (λ (s m : ℕ). draft_refusal s m (draft nodes r.count) (draft clauses r.many) (length x))
+            ap₂ (λ (s m : ℕ). draft_refusal s m (so_far nodes) (clauses_so_far clauses) (length x))
             read.signals_said read.names_said
-            ∙ refusal_same t nodes r.count clauses r.many drawn (length x)
+            ∙ refusal_same t nodes clauses drawn (length x)
 
-        pub read_judged : (e : Refusal) → answered {A = Unit {0}} (draft_refusal r.signals r.names (draft nodes r.count) (draft clauses r.many) (length x)) tt ≡ Err e → ReadText text x x (Err e)
+        pub read_judged : (e : Refusal) → answered {A = Unit {0}} (draft_refusal r.signals r.names (so_far nodes) (clauses_so_far clauses) (length x)) tt ≡ Err e → ReadText text x x (Err e)
         unfolding t
         read_judged e is =
             read_refused ended t read.said e
-            (of_refusal _ tt e (draft_small r.signals r.names (draft nodes r.count) (draft clauses r.many) (length x)) is ∙ number_same)
+            (of_refusal _ tt e (draft_small r.signals r.names (so_far nodes) (clauses_so_far clauses) (length x)) is ∙ number_same)
 
-        pub read_whole : (y : List ℕ) (long : ℕ) → answered {A = Unit {0}} (draft_refusal r.signals r.names (draft nodes r.count) (draft clauses r.many) (length x)) tt ≡ Ok tt
-            → Assembled r.signals r.names (draft nodes r.count) (draft clauses r.many) x y long
+        pub read_whole : (y : List ℕ) (long : ℕ) → answered {A = Unit {0}} (draft_refusal r.signals r.names (so_far nodes) (clauses_so_far clauses) (length x)) tt ≡ Ok tt
+            → Assembled r.signals r.names (so_far nodes) (clauses_so_far clauses) x y long
             → ReadText text x y (Ok long)
         unfolding t
         read_whole y long is put =
             let none = (of_value _ tt tt is).0 in
-            let free = nothing_refused r.signals r.names nodes r.count clauses r.many (length x) none in
+            let free = nothing_refused r.signals r.names nodes.bytes nodes.count clauses.bytes clauses.count (length x) none in
             let same =
-            ap₂ (λ (s m : ℕ). sheet_bytes s m (draft nodes r.count) (draft clauses r.many))
+            ap₂ (λ (s m : ℕ). sheet_bytes s m (so_far nodes) (clauses_so_far clauses))
             read.signals_said read.names_said
-            ∙ bytes_same t nodes r.count clauses r.many drawn (length x) free.few_nodes
+            ∙ bytes_same t nodes clauses drawn (length x) free.few_nodes
             in
             read_written ended t read.said y long (sym number_same ∙ none)
             (put.bytes ∙ ap (λ (l : List ℕ). front_of l x) same) (put.size ∙ ap length same)

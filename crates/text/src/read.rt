@@ -7,19 +7,17 @@ ghost use Rattle.typed.specs.Draft.{draft, sheet_bytes};
 ghost use Rattle.text.specs.Parts.{draft_refusal};
 ghost use Rattle.text.specs.Text.{ReadText};
 
+use crate::clause::{CLAUSE_BYTES, Clauses};
 use crate::sheet::sheet;
 use lexer::brackets::too_deep;
 use lexer::ends_line;
+use propositions::nodes::{NODE_BYTES, Nodes};
 use stored::refusal::Refusal;
 use stored::sheet::read_sheet;
 use stored::{Header, layout};
 use typed::draft::assemble;
 
-// The bytes of the most nodes, of the most clauses, and of a sheet that has both.
-const NODE_BYTES: usize = layout::NODE_SIZE * layout::MOST_NODES;
-
-const CLAUSE_BYTES: usize = layout::CLAUSE_SIZE * layout::MOST_CLAUSES;
-
+// The bytes of a sheet that has the most nodes and the most clauses.
 const SHEET_BYTES: usize = layout::NODES_START + NODE_BYTES + CLAUSE_BYTES;
 
 fn no_nodes() -> [u8; NODE_BYTES]
@@ -94,15 +92,21 @@ pub fn read_text(text: &[u8], out: &mut [u8]) -> Result<usize, Refusal>
     if !ends_line(text) {
         return Err(Refusal::OutsideGrammar);
     }
-    let mut nodes = no_nodes();
-    let mut clauses = no_clauses();
+    let mut nodes = Nodes {
+        bytes: no_nodes(),
+        count: 0,
+    };
+    let mut clauses = Clauses {
+        bytes: no_clauses(),
+        count: 0,
+    };
     let Some(said) = sheet(text, &mut nodes, &mut clauses) else {
         return Err(Refusal::OutsideGrammar);
     };
     let s = said.signals;
     let m = said.names;
-    let n = said.count;
-    let c = said.many;
-    judge(s, m, &nodes, n, &clauses, c, out.len())?;
-    Ok(assemble(out, s, m, &nodes, n, &clauses, c))
+    let n = nodes.count;
+    let c = clauses.count;
+    judge(s, m, &nodes.bytes, n, &clauses.bytes, c, out.len())?;
+    Ok(assemble(out, s, m, &nodes.bytes, n, &clauses.bytes, c))
 }

@@ -21,40 +21,40 @@ bracket-returns t c =
     bracket_star c.in_ok-open.ensures c.in_ok-inner.ensures c.in_ok-close.ensures c.in-Some.ensures c.over.ensures
 
 pub formula-returns : goal.formula-returns
-formula-returns t c = formula_reads _ _ _ _ _ _ c.joined.result c.joined.ensures
+formula-returns t c = formula_reads _ _ _ _ _ c.joined.result c.joined.ensures
 
 pub joined-returns-then-level-eq0 : goal.joined-returns-then-level-eq0
-joined-returns-then-level-eq0 t c = level_zero _ _ _ _ _ _ c.term.result c.args.level c.if-level-eq0.true c.term.ensures
+joined-returns-then-level-eq0 t c = level_zero _ _ _ _ _ c.term.result c.args.level c.if-level-eq0.true c.term.ensures
 
-pub joined-returns-in_err-got : goal.joined-returns-in_err-got
-joined-returns-in_err-got t c =
+pub joined-returns-in_err-here : goal.joined-returns-in_err-here
+joined-returns-in_err-here t c =
     rw c.from_residual.ensures
-    (chain_none (level_chain c.args.level c.if-level-eq0.false c.requires.known_level) c.in_err-got.ensures)
+    (chain_none (level_chain c.args.level c.if-level-eq0.false c.requires.known_level) c.in_err-here.ensures)
 
 pub joined-loop-more-init : goal.joined-loop-more-init
 joined-loop-more-init t c =
-    chain_first (level_chain c.args.level c.if-level-eq0.false c.requires.known_level) c.in_ok-got.ensures
+    chain_first (level_chain c.args.level c.if-level-eq0.false c.requires.known_level) c.in_ok-here.ensures
 
-pub joined-returns-in_err-second : goal.joined-returns-in_err-second
-joined-returns-in_err-second t c =
-    rw c.from_residual-in_err-second.ensures
+pub joined-returns-in_err-here-2 : goal.joined-returns-in_err-here-2
+joined-returns-in_err-here-2 t c =
+    rw c.from_residual-in_err-here-2.ensures
     (chain_fails (level_chain c.args.level c.if-level-eq0.false c.requires.known_level) c.loop-more.invariant c.in-Some.ensures
-    c.in_err-second.ensures)
+    c.in_err-here-2.ensures)
 
 pub joined-loop-more-preserved : goal.joined-loop-more-preserved
 joined-loop-more-preserved t c =
     chain_turn (level_chain c.args.level c.if-level-eq0.false c.requires.known_level) c.loop-more.invariant c.in-Some.ensures
-    c.in_ok-second.ensures c.join.ensures
+    c.in_ok-here-2.ensures c.join.ensures
 
 pub joined-returns : goal.joined-returns
 joined-returns t c =
     chain_ends (level_chain c.args.level c.if-level-eq0.false c.requires.known_level) c.loop-more.invariant c.in_default.ensures
 
 pub term-returns-in-Plain-eq22 : goal.term-returns-in-Plain-eq22
-term-returns-in-Plain-eq22 t c = term_bracket c.next-first.ensures _ _ _ _ c.bracket.result (cc) c.bracket.ensures
+term-returns-in-Plain-eq22 t c = term_bracket c.next-first.ensures _ _ _ c.bracket.result (cc) c.bracket.ensures
 
 pub term-returns-in-Plain : goal.term-returns-in-Plain
-term-returns-in-Plain t c = term_piece c.next-first.ensures _ _ _ _ c.piece.result c.in-Plain.word c.in-Plain.is (search rules) c.piece.ensures
+term-returns-in-Plain t c = term_piece c.next-first.ensures _ _ _ c.piece.result c.in-Plain.word c.in-Plain.is (search rules) c.piece.ensures
 
 pub term-returns-in_default : goal.term-returns-in_default
 term-returns-in_default t c = term_none c.next-first.ensures c.in_default.not-Plain

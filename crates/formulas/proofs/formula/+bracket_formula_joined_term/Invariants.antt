@@ -21,7 +21,7 @@ decreases-term l = 7 * l.depth + 1
 
 abbrev pub invariant-joined-loop-more : goal.invariant-joined-loop-more
 invariant-joined-loop-more l =
-    Ended (about_level l.level) (has_level l.level) (put_level l.level) (Taken l.below) l.depth l.text l.at l.fn.nodes l.count l.nodes l.got
+    Ended (about_level l.level) (has_level l.level) (put_level l.level) (Taken l.below) l.depth l.text l.at l.fn.nodes l.nodes l.here
 
 abbrev pub decreases-joined-loop-more : goal.decreases-joined-loop-more
-decreases-joined-loop-more l = length l.text - l.got.at
+decreases-joined-loop-more l = length l.text - l.here

@@ -8,4 +8,4 @@ returns-in_err-end c =
 
 pub returns : goal.returns
 returns c =
-    at_took c.in_ok-open.ensures c.in_ok-name.ensures c.in_ok-end.ensures (record { drafted = c.put.ensures })
+    at_took c.in_ok-open.ensures c.in_ok-name.ensures c.in_ok-end.ensures c.put.ensures

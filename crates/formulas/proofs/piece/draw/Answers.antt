@@ -19,4 +19,4 @@ returns-in_err-end c =
 pub returns : goal.returns
 returns c =
     draw_took c.in_ok-open.ensures c.in_ok-symbol.ensures c.in_ok-comma.ensures c.in_ok-signal.ensures c.in_ok-end.ensures
-    c.in_byte.ensures.0 (record { drafted = c.put.ensures })
+    c.in_byte.ensures.0 c.put.ensures

@@ -40,4 +40,4 @@ returns-in_err-end c =
 pub returns : goal.returns
 returns c =
     gap_took c.in_ok-open.ensures c.in_ok-first.ensures c.in_ok-comma1.ensures c.in_ok-second.ensures c.in_ok-comma2.ensures c.in_ok-least.ensures c.in_ok-comma3.ensures c.in_ok-most.ensures c.in_ok-end.ensures
-    (record { drafted = c.put.ensures })
+    c.put.ensures

@@ -12,4 +12,4 @@ pub returns : goal.returns
 returns c =
     let compared = c.in_ok-compared.ensures in
     λ depth.
-    slen_took depth c.requires.inside c.in_ok-compared.compared compared.leaf_read compared.known_value c.in_ok-end.ensures (record { drafted = c.put.ensures })
+    slen_took depth c.requires.inside c.in_ok-compared.compared compared.leaf_read compared.known_value c.in_ok-end.ensures c.put.ensures

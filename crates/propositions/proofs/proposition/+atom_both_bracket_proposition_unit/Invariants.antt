@@ -25,13 +25,13 @@ abbrev pub decreases-unit : goal.decreases-unit
 decreases-unit l = 5 * l.depth + 2
 
 abbrev pub invariant-both-loop-joiner : goal.invariant-both-loop-joiner
-invariant-both-loop-joiner l = Ended about_both has_both put_and_p ByNone l.depth l.text l.at l.fn.nodes l.count l.nodes l.got
+invariant-both-loop-joiner l = Ended about_both has_both put_and_p ByNone l.depth l.text l.at l.fn.nodes l.nodes l.here
 
 abbrev pub decreases-both-loop-joiner : goal.decreases-both-loop-joiner
-decreases-both-loop-joiner l = length l.text - l.got.at
+decreases-both-loop-joiner l = length l.text - l.here
 
 abbrev pub invariant-proposition-loop-joiner : goal.invariant-proposition-loop-joiner
-invariant-proposition-loop-joiner l = Ended about_or_p has_or_p put_or_p ByAnd l.depth l.text l.at l.fn.nodes l.count l.nodes l.got
+invariant-proposition-loop-joiner l = Ended about_or_p has_or_p put_or_p ByAnd l.depth l.text l.at l.fn.nodes l.nodes l.here
 
 abbrev pub decreases-proposition-loop-joiner : goal.decreases-proposition-loop-joiner
-decreases-proposition-loop-joiner l = length l.text - l.got.at
+decreases-proposition-loop-joiner l = length l.text - l.here

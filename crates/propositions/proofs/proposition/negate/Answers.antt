@@ -6,4 +6,4 @@ pub loop-init : goal.loop-init
 loop-init c = putting_none
 
 pub loop-preserved : goal.loop-preserved
-loop-preserved c = putting_more c.loop.invariant c.over-whole.ensures
+loop-preserved c = putting_more c.loop.invariant c.over.ensures

@@ -3,4 +3,4 @@ use Rattle.propositions.proofs.Propositions.{Putting}
 use Rattle.propositions.proofs.proposition.negate.Given as goal
 
 abbrev pub invariant-loop : goal.invariant-loop
-invariant-loop l = Putting l.initial.nodes l.count l.nodes l.whole l.counter
+invariant-loop l = Putting l.initial.nodes l.nodes l.counter

@@ -27,4 +27,4 @@ returns-in_err-close c =
 pub returns : goal.returns
 returns c =
     clause_took c.requires.0.inside c.in_ok-word.ensures c.in_ok-bracket.ensures c.parts_used-more.ensures c.in_ok-said.ensures
-    c.in_ok-close.ensures c.put_clause.ensures
+    c.in_ok-close.ensures c.put.ensures

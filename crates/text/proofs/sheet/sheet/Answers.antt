@@ -12,10 +12,10 @@ pub returns-in_err-end : goal.returns-in_err-end
 returns-in_err-end c =
     rw c.from_residual-in_err-end.ensures (no_line_end c.in_ok-s.ensures c.in_ok-m.ensures c.in_err-end.ensures)
 
-pub returns-in_err-said : goal.returns-in_err-said
-returns-in_err-said c =
-    rw c.from_residual-in_err-said.ensures
-    (no_lines_there c.in_ok-s.ensures c.in_ok-m.ensures c.in_ok-end.ensures c.in_err-said.ensures)
+pub returns-in_err-lines : goal.returns-in_err-lines
+returns-in_err-lines c =
+    rw c.from_residual-in_err-lines.ensures
+    (no_lines_there c.in_ok-s.ensures c.in_ok-m.ensures c.in_ok-end.ensures c.in_err-lines.ensures)
 
 pub returns : goal.returns
-returns c = sheet_took c.in_ok-s.ensures c.in_ok-m.ensures c.in_ok-end.ensures c.in_ok-said.ensures
+returns c = sheet_took c.in_ok-s.ensures c.in_ok-m.ensures c.in_ok-end.ensures c.in_ok-lines.ensures
