@@ -17,16 +17,16 @@ returns-then-not-ends_line c =
 pub returns-then-not-said : goal.returns-then-not-said
 returns-then-not-said c =
     let said = c.sheet-said in
-    let empty_nodes = c.no_nodes-nodes.ensures in
-    let empty_clauses = c.no_clauses-clauses.ensures in
+    let empty_nodes = c.zeros-nodes.ensures in
+    let empty_clauses = c.zeros-clauses.ensures in
     unread_outside _ _ _ c.too_deep.ensures c.if-too_deep.false _ _ _ _ said.result empty_nodes empty_clauses
     said.ensures (not-true _ c.if-not-said.true)
 
 pub returns-in_err-judge : goal.returns-in_err-judge
 returns-in_err-judge c =
     let said = c.sheet-said in
-    let empty_nodes = c.no_nodes-nodes.ensures in
-    let empty_clauses = c.no_clauses-clauses.ensures in
+    let empty_nodes = c.zeros-nodes.ensures in
+    let empty_clauses = c.zeros-clauses.ensures in
     let p = err_from_is_err_and c.from_residual.result c.from_residual.ensures.1 in
     rw (p.1, p.2)
     (read_judged _ _ _ c.too_deep.ensures c.if-too_deep.false _ _ _ _ said.result empty_nodes empty_clauses said.ensures _
@@ -43,7 +43,7 @@ assemble-requires c =
 pub returns : goal.returns
 returns c =
     let said = c.sheet-said in
-    let empty_nodes = c.no_nodes-nodes.ensures in
-    let empty_clauses = c.no_clauses-clauses.ensures in
+    let empty_nodes = c.zeros-nodes.ensures in
+    let empty_clauses = c.zeros-clauses.ensures in
     read_whole _ _ _ c.too_deep.ensures c.if-too_deep.false _ _ _ _ said.result empty_nodes empty_clauses said.ensures _
     c.ends_line.ensures (c.if-not-ends_line.false) (not-false _ c.if-not-said.false) _ _ (sym c.in_ok-judge.ensures) c.assemble.ensures
