@@ -5,15 +5,10 @@ ghost use Rattle.board.specs.Board.{new_board, open_answer};
 
 use crate::Board;
 use lines::lines::put_word;
+use lines::output::zeros;
 use stored::layout::{MOST_CYCLES, MOST_SHEET};
 use stored::refusal::Refusal;
 use stored::sheet::read_sheet;
-
-fn no_sheet() -> [u8; MOST_SHEET]
-    ensures { result ≡ replicate most_sheet 0 }
-{
-    [0; MOST_SHEET]
-}
 
 fn no_cycles() -> [u16; MOST_CYCLES]
     ensures { result ≡ replicate most_cycles 0 }
@@ -26,7 +21,7 @@ fn new_board(sheet: &[u8]) -> Board
     requires { length sheet.now ≤ most_sheet }
     ensures { result ≡ new_board sheet.now }
 {
-    let mut bytes = no_sheet();
+    let mut bytes = zeros();
     put_word(&mut bytes, 0, sheet);
     let cycles = no_cycles();
     Board {

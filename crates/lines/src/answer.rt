@@ -1,5 +1,5 @@
 // What is written for the answer of an operation that writes a sheet: the lent bytes up to a length, or the line of a refusal.
-ghost use Rattle.std.specs.Prelude.{◌≡◌, ◌≤◌, ◌<◌, length, replicate, IfOk};
+ghost use Rattle.std.specs.Prelude.{◌≡◌, ◌≤◌, ◌<◌, length, IfOk};
 ghost use Rattle.std.proofs.lemmas.List.Edits.{sets};
 ghost use Rattle.stored.specs.Layout.{least_output};
 ghost use Rattle.lines.specs.Lines.{refused_text};
@@ -9,12 +9,6 @@ use crate::lines::put_refused;
 use crate::output::Output;
 use stored::layout::LEAST_OUTPUT;
 use stored::refusal::Refusal;
-
-pub fn blank() -> [u8; LEAST_OUTPUT]
-    ensures { result ≡ replicate least_output 0 }
-{
-    [0; LEAST_OUTPUT]
-}
 
 // The line of a refusal's number.
 pub fn refused(bytes: [u8; LEAST_OUTPUT], number: usize) -> Output<LEAST_OUTPUT>

@@ -1,5 +1,5 @@
 // What a program writes.
-ghost use Rattle.std.specs.Prelude.{◌≡◌, ◌≤◌, take};
+ghost use Rattle.std.specs.Prelude.{◌≡◌, ◌≤◌, take, replicate};
 
 // Bytes, of which the first `length` are written.
 #[derive(Drop)]
@@ -16,4 +16,11 @@ impl<const N: usize> Output<N> {
     {
         &self.bytes[..self.length]
     }
+}
+
+// An array of zeros, for a text to be put in.
+pub fn zeros<const N: usize>() -> [u8; N]
+    ensures { result ≡ replicate N 0 }
+{
+    [0; N]
 }

@@ -2,7 +2,7 @@
 ghost use Rattle.printed.specs.Formula.{OutputOf};
 
 use lines::answer;
-use lines::output::Output;
+use lines::output::{Output, zeros};
 use stored::layout::LEAST_OUTPUT;
 use translator::translate;
 
@@ -10,7 +10,7 @@ use translator::translate;
 pub fn formula_output(sheet: &[u8]) -> Output<LEAST_OUTPUT>
     ensures { OutputOf sheet.now result }
 {
-    let mut bytes = answer::blank();
+    let mut bytes = zeros();
     let answer = translate(sheet, &mut bytes);
     answer::answered(bytes, answer)
 }

@@ -8,7 +8,7 @@ ghost use Rattle.printed.specs.Line.{verdict_text, line_text, most_line, line_fo
 use checker::check::{Finding, Verdict, check};
 use lines::input::{lent_words, split};
 use lines::lines::{put_line, put_refused};
-use lines::output::Output;
+use lines::output::{Output, zeros};
 use stored::refusal::Refusal;
 
 // The bytes that a line takes at most.
@@ -60,18 +60,12 @@ fn answer_for(input: &[u8]) -> Result<Verdict, Refusal>
     check(sheet, trace, &mut words)
 }
 
-fn blank() -> [u8; MOST_LINE]
-    ensures { result ≡ replicate most_line 0 }
-{
-    [0; MOST_LINE]
-}
-
 // The line of an answer.
 pub fn answer_line(answer: Result<Verdict, Refusal>) -> Output<MOST_LINE>
     requires { IfOk answer SmallVerdict }
     ensures { Holds result (line_text answer) }
 {
-    let mut bytes = blank();
+    let mut bytes = zeros();
     let length = put_answer(&mut bytes, answer);
     Output { bytes, length }
 }

@@ -6,7 +6,7 @@ ghost use Rattle.printed.specs.Page.{glyph_of, row_byte, table_text, text_of, an
 use checker::table::table;
 use lines::input::{byte_at, lent_words, split, word_at};
 use lines::lines::put_refused;
-use lines::output::Output;
+use lines::output::{Output, zeros};
 use stored::refusal::Refusal;
 
 // The code of a hexadecimal digit.
@@ -29,17 +29,11 @@ fn row_byte(row: u64, j: usize) -> u8
     glyph((row >> shift) % 16)
 }
 
-fn blank() -> [u8; 1088]
-    ensures { result ≡ replicate 1088 0 }
-{
-    [0; 1088]
-}
-
 // The lines of a table's rows.
 fn row_lines(rows: &[u64; 64]) -> [u8; 1088]
     ensures { result ≡ table_text rows.now }
 {
-    let mut bytes = blank();
+    let mut bytes = zeros();
     for k in 0..1088 {
         bytes[k] = row_byte(rows[k / 17], k % 17);
     }
@@ -53,7 +47,7 @@ fn page_of(answer: Result<[u64; 64], Refusal>) -> Output<1088>
     let rows = match answer {
         Ok(rows) => rows,
         Err(refusal) => {
-            let mut bytes = blank();
+            let mut bytes = zeros();
             let length = put_refused(&mut bytes, refusal.number());
             return Output { bytes, length };
         }

@@ -2,7 +2,7 @@
 ghost use Rattle.printed.specs.Sheet.{SheetOutput};
 
 use lines::answer;
-use lines::output::Output;
+use lines::output::{Output, zeros};
 use stored::layout::LEAST_OUTPUT;
 use text::read::read_text;
 
@@ -16,7 +16,7 @@ pub const HELD: usize = MOST_TEXT + 1;
 pub fn sheet_output(text: &[u8]) -> Output<LEAST_OUTPUT>
     ensures { SheetOutput text.now result }
 {
-    let mut bytes = answer::blank();
+    let mut bytes = zeros();
     if MOST_TEXT < text.len() {
         return answer::refused(bytes, 0);
     }

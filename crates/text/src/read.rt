@@ -20,22 +20,10 @@ use typed::draft::assemble;
 // The bytes of a sheet that has the most nodes and the most clauses.
 const SHEET_BYTES: usize = layout::NODES_START + NODE_BYTES + CLAUSE_BYTES;
 
-fn no_nodes() -> [u8; NODE_BYTES]
-    ensures { result ≡ replicate (node_size * most_nodes) 0 }
+fn zeros<const N: usize>() -> [u8; N]
+    ensures { result ≡ replicate N 0 }
 {
-    [0; NODE_BYTES]
-}
-
-fn no_clauses() -> [u8; CLAUSE_BYTES]
-    ensures { result ≡ replicate (clause_size * most_clauses) 0 }
-{
-    [0; CLAUSE_BYTES]
-}
-
-fn no_sheet() -> [u8; SHEET_BYTES]
-    ensures { result ≡ replicate (clauses_end most_nodes most_clauses) 0 }
-{
-    [0; SHEET_BYTES]
+    [0; N]
 }
 
 // Reads the sheet of these nodes and clauses.
@@ -50,7 +38,7 @@ fn read_draft(
     requires { (length nodes.now ≡ node_size * most_nodes) × (n ≤ most_nodes) × (length clauses.now ≡ clause_size * most_clauses) × (c ≤ most_clauses) }
     ensures { result ≡ sheet_answer (sheet_bytes s m (draft nodes.now n) (draft clauses.now c)) }
 {
-    let mut bytes = no_sheet();
+    let mut bytes: [u8; SHEET_BYTES] = zeros();
     let size = assemble(&mut bytes, s, m, nodes, n, clauses, c);
     read_sheet(&bytes[0..size])
 }
@@ -93,11 +81,11 @@ pub fn read_text(text: &[u8], out: &mut [u8]) -> Result<usize, Refusal>
         return Err(Refusal::OutsideGrammar);
     }
     let mut nodes = Nodes {
-        bytes: no_nodes(),
+        bytes: zeros(),
         count: 0,
     };
     let mut clauses = Clauses {
-        bytes: no_clauses(),
+        bytes: zeros(),
         count: 0,
     };
     let Some(said) = sheet(text, &mut nodes, &mut clauses) else {

@@ -8,8 +8,8 @@ use Rattle.board.specs.Board.{new_board}
 use Rattle.board.proofs.open.new_board.Goals as goal
 
 pub put_word-requires : goal.put_word-requires
-put_word-requires c = let size = ap length c.no_sheet-bytes.ensures ∙ length-replicate {A = ℕ} most_sheet 0 in omega (arith, c.requires)
+put_word-requires c = let size = ap length c.zeros-bytes.ensures ∙ length-replicate {A = ℕ} most_sheet 0 in omega (arith, c.requires)
 
 pub returns : goal.returns
 unfolding new_board
-returns c = rw (c.put_word.ensures.bytes, c.no_sheet-bytes.ensures, c.no_cycles-cycles.ensures)
+returns c = rw (c.put_word.ensures.bytes, c.zeros-bytes.ensures, c.no_cycles-cycles.ensures)

@@ -6,5 +6,5 @@ use Rattle.printed.proofs.line.answer_line.Goals as goal
 pub returns : goal.returns
 returns c =
     let e = c.put_answer-length.ensures in
-    let w = put_padded most_line c.blank-bytes.ensures e.0 e.1 in
+    let w = put_padded most_line c.zeros-bytes.ensures e.0 e.1 in
     record { bytes_are = w.0; length_is = w.1 }

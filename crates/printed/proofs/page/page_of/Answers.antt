@@ -19,5 +19,5 @@ pub returns-in-Err : goal.returns-in-Err
 unfolding text_of
 returns-in-Err c =
     let e = c.put_refused-length.ensures in
-    let w = put_padded 1088 c.blank-bytes.ensures e.0 (omega (arith, e.1)) in
+    let w = put_padded 1088 c.zeros-bytes.ensures e.0 (omega (arith, e.1)) in
     rw (c.in-Err.is, ← c.number.ensures.value) (record { bytes_are = w.0; length_is = w.1 })

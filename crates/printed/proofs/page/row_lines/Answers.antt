@@ -8,7 +8,7 @@ use Rattle.printed.specs.Page.{table_byte, table_text}
 use Rattle.printed.proofs.page.row_lines.Goals as goal
 
 pub loop-k-init : goal.loop-k-init
-loop-k-init c = (ap length c.blank-bytes.ensures ∙ length-replicate {A = ℕ} 1088 0, (λ j l. absurd (omega arith)))
+loop-k-init c = (ap length c.zeros-bytes.ensures ∙ length-replicate {A = ℕ} 1088 0, (λ j l. absurd (omega arith)))
 
 pub loop-k-preserved : goal.loop-k-preserved
 unfolding table_byte

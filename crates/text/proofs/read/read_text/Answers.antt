@@ -18,8 +18,8 @@ returns-in_default c = unread_outside _ _ _ c.too_deep.ensures c.if-too_deep.fal
 
 pub returns-in_err-judge : goal.returns-in_err-judge
 returns-in_err-judge c =
-    let empty_nodes = c.no_nodes.ensures in
-    let empty_clauses = c.no_clauses.ensures in
+    let empty_nodes = c.zeros.ensures in
+    let empty_clauses = c.zeros-2.ensures in
     let p = err_from_is_err_and c.from_residual.result c.from_residual.ensures.1 in
     rw (p.1, p.2)
     (read_judged _ _ _ c.too_deep.ensures c.if-too_deep.false _ _ _ _ c.in-Some.said empty_nodes empty_clauses c.in-Some.ensures _
@@ -35,7 +35,7 @@ assemble-requires c =
 
 pub returns : goal.returns
 returns c =
-    let empty_nodes = c.no_nodes.ensures in
-    let empty_clauses = c.no_clauses.ensures in
+    let empty_nodes = c.zeros.ensures in
+    let empty_clauses = c.zeros-2.ensures in
     read_whole _ _ _ c.too_deep.ensures c.if-too_deep.false _ _ _ _ c.in-Some.said empty_nodes empty_clauses c.in-Some.ensures _
     c.ends_line.ensures (c.if-not-ends_line.false) _ _ (sym c.in_ok-judge.ensures) c.assemble.ensures
