@@ -28,6 +28,7 @@ pub fn has_name(mask: usize, u: usize) -> bool
 }
 
 // Entry i of a table, 0 past its end.
+#[tactic(auto, unfolding(crate::specs::Reach::entry_of))]
 pub fn entry_of(table: &[usize], i: usize) -> usize
     ensures { result ≡ entry_of table.now i }
 {

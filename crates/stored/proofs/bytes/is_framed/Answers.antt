@@ -8,12 +8,6 @@ pub returns-then-s-least : goal.returns-then-s-least
 unfolding framed_from
 returns-then-s-least c = rw (lt-leb _ _ c.if-s-least.true)
 
-pub word-requires : goal.word-requires
-word-requires c = omega arith
-
-pub overflow_sub-result : goal.overflow_sub-result
-overflow_sub-result c = omega arith
-
 pub returns : goal.returns
 unfolding framed_from
 returns c = rw (le-leb _ _ c.if-s-least.false, c.word.ensures.0)

@@ -5,12 +5,6 @@ use Rattle.stored.specs.Reach.{joint}
 use Rattle.stored.specs.Clause.{part_covered}
 use Rattle.stored.proofs.clauses.part_covered.Goals as goal
 
-pub overflow_shl-end : goal.overflow_shl-end
-overflow_shl-end c = omega arith
-
-pub entry_of-reached-requires : goal.entry_of-reached-requires
-entry_of-reached-requires c = omega arith
-
 pub returns : goal.returns
 unfolding part_covered joint
 returns c = rw (shift_one c.args.m c.requires, c.entry_of-reached.ensures)

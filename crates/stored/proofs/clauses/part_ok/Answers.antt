@@ -3,9 +3,6 @@ use native.Mathlib.Omega.{arith}
 use Rattle.stored.specs.Clause.{part_right}
 use Rattle.stored.proofs.clauses.part_ok.Goals as goal
 
-pub is_formula_node-requires : goal.is_formula_node-requires
-is_formula_node-requires c = omega arith
-
 pub returns-then-used : goal.returns-then-used
 unfolding part_right
 returns-then-used c = rw c.if-used.true c.is_formula_node.ensures

@@ -10,53 +10,26 @@ clauses_end-rest-requires c = (omega arith, omega arith)
 pub overflow_sub-rest : goal.overflow_sub-rest
 overflow_sub-rest c = omega (arith, c.clauses_end-rest.ensures)
 
-pub high-requires : goal.high-requires
-high-requires c = omega arith
-
-pub bounds-out-0 : goal.bounds-out-0
-bounds-out-0 c = omega arith
-
-pub low-requires : goal.low-requires
-low-requires c = omega arith
-
 pub bounds-out-1 : goal.bounds-out-1
 bounds-out-1 c = simp length-set (omega arith)
 
 pub bounds-out-2 : goal.bounds-out-2
 bounds-out-2 c = simp length-set (omega arith)
 
-pub overflow_cast-out : goal.overflow_cast-out
-overflow_cast-out c = omega arith
-
 pub bounds-out-3 : goal.bounds-out-3
 bounds-out-3 c = simp length-set (omega arith)
-
-pub overflow_cast-out-2 : goal.overflow_cast-out-2
-overflow_cast-out-2 c = omega arith
 
 pub bounds-out-4 : goal.bounds-out-4
 bounds-out-4 c = simp length-set (omega arith)
 
-pub overflow_cast-out-3 : goal.overflow_cast-out-3
-overflow_cast-out-3 c = omega arith
-
 pub bounds-out-5 : goal.bounds-out-5
 bounds-out-5 c = simp length-set (omega arith)
-
-pub high-requires-2 : goal.high-requires-2
-high-requires-2 c = omega arith
 
 pub bounds-out-6 : goal.bounds-out-6
 bounds-out-6 c = simp length-set (omega arith)
 
-pub low-requires-2 : goal.low-requires-2
-low-requires-2 c = omega arith
-
 pub bounds-out-7 : goal.bounds-out-7
 bounds-out-7 c = simp length-set (omega arith)
-
-pub overflow_cast-out-4 : goal.overflow_cast-out-4
-overflow_cast-out-4 c = omega arith
 
 pub bounds-out-8 : goal.bounds-out-8
 bounds-out-8 c = simp length-set (omega arith)

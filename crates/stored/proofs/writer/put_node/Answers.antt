@@ -5,9 +5,6 @@ use native.Mathlib.Omega.{arith}
 use Rattle.stored.specs.Written.{put_node}
 use Rattle.stored.proofs.writer.put_node.Goals as goal
 
-pub nodes_end-requires : goal.nodes_end-requires
-nodes_end-requires c = omega arith
-
 pub write_node-requires : goal.write_node-requires
 write_node-requires c = let end = c.nodes_end.ensures in search rules
 
