@@ -20,6 +20,7 @@ pub const ADVICE: usize = 2;
 static PARTS: [u8; 7] = [0, 1, 2, 1, 2, 3, 3];
 
 // Clause k of a clause part.
+#[tactic(auto, unfolding(crate::specs::Clause::stored_at))]
 pub fn stored_at(clauses: &[u8], k: usize) -> StoredClause
     requires { clause_size * k + clause_size ≤ length clauses.now }
     ensures { result ≡ stored_at clauses.now k }
@@ -46,6 +47,7 @@ pub fn stored_at(clauses: &[u8], k: usize) -> StoredClause
 }
 
 // How many parts a type uses.
+#[tactic(auto, unfolding(crate::specs::Clause::parts_used))]
 pub fn parts_used(clause_type: usize) -> usize
     ensures { result ≡ parts_used clause_type }
 {
@@ -53,6 +55,7 @@ pub fn parts_used(clause_type: usize) -> usize
 }
 
 // A used root is a formula node; an unused root and mask are zero.
+#[tactic(auto, unfolding(crate::specs::Clause::part_right))]
 fn part_ok(nodes: &[u8], n: usize, used: bool, root: usize, mask: usize) -> bool
     requires { node_size * n ≤ length nodes.now }
     ensures { result ≡ part_right (node_at nodes.now) n used root mask }
@@ -64,6 +67,7 @@ fn part_ok(nodes: &[u8], n: usize, used: bool, root: usize, mask: usize) -> bool
     }
 }
 
+#[tactic(auto, unfolding(crate::specs::Clause::clause_right))]
 fn clause_ok(nodes: &[u8], n: usize, d: StoredClause) -> bool
     requires { node_size * n ≤ length nodes.now }
     ensures { result ≡ clause_right (node_at nodes.now) n d }
@@ -99,6 +103,7 @@ fn part_covered(table: &[usize], m: usize, used: bool, root: usize, mask: usize)
     known & (!used | covered)
 }
 
+#[tactic(auto, unfolding(crate::specs::Clause::clause_covered))]
 fn clause_covered(table: &[usize], m: usize, d: StoredClause) -> bool
     requires { m < 64 }
     ensures { result ≡ clause_covered table.now m d }
@@ -118,6 +123,7 @@ fn all_covered(table: &[usize], m: usize, clauses: &[u8], c: usize) -> bool
 }
 
 // Rule 9: every mask has bits for names below m only, and covers what its part reaches.
+#[tactic(auto, unfolding(crate::specs::Reach::reach_table))]
 pub fn clauses_covered(nodes: &[u8], n: usize, m: usize, clauses: &[u8], c: usize) -> bool
     requires { (n ≤ most_nodes) × (node_size * n ≤ length nodes.now) × (m < 64) × (clause_size * c ≤ length clauses.now) }
     ensures { result ≡ every_below c (clause_covered_at (reach_table (node_at nodes.now) n) m (stored_at clauses.now)) }

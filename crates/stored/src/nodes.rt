@@ -94,6 +94,7 @@ pub fn b_use(op: usize) -> Use
 }
 
 // Node i of a node part.
+#[tactic(auto, unfolding(crate::specs::Node::node_at))]
 pub fn node_at(nodes: &[u8], i: usize) -> Node
     requires { node_size * i + node_size ≤ length nodes.now }
     ensures { result ≡ node_at nodes.now i }
@@ -171,6 +172,7 @@ fn operand_ok(nodes: &[u8], i: usize, what: Use, v: usize) -> bool
     }
 }
 
+#[tactic(auto, unfolding(crate::specs::Node::operands_right))]
 fn operands_ok_at(nodes: &[u8], i: usize) -> bool
     requires { node_size * i + node_size ≤ length nodes.now }
     ensures { result ≡ operands_right requirement_sorts (node_at nodes.now) i }
