@@ -1,5 +1,4 @@
 -- `stored::clauses::part_covered` meets its contract.
-use native.Mathlib.Omega.{arith}
 use Rattle.stored.proofs.Rules.{shift_one}
 use Rattle.stored.specs.Reach.{joint}
 use Rattle.stored.specs.Clause.{part_covered}

@@ -1,5 +1,4 @@
 -- `traces::trace::cycle_at` meets its contract.
-use native.Mathlib.Omega.{arith}
 use Rattle.traces.specs.Trace.{cycle_at}
 use Rattle.traces.proofs.trace.cycle_at.Goals as goal
 
