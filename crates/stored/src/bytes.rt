@@ -31,8 +31,5 @@ pub fn is_framed(s: &[u8], least: usize) -> bool
     requires { 2 ≤ least }
     ensures { result ≡ framed_from least s.now }
 {
-    if s.len() < least {
-        return false;
-    }
-    word(s, 0) == s.len() - 2
+    least <= s.len() && word(s, 0) == s.len() - 2
 }

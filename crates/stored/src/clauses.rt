@@ -73,8 +73,7 @@ fn clause_ok(nodes: &[u8], n: usize, d: StoredClause) -> bool
     ensures { result ≡ clause_right (node_at nodes.now) n d }
 {
     let used = parts_used(d.clause_type);
-    1 <= d.clause_type
-        && d.clause_type <= 6
+    (1..=6).contains(&d.clause_type)
         && d.role <= ADVICE
         && part_ok(nodes, n, 0 < used, d.root1, d.mask1)
         && part_ok(nodes, n, 1 < used, d.root2, d.mask2)

@@ -7,6 +7,7 @@ ghost use Rattle.stored.specs.Written.{NodeFits, node_bytes, put_node, put_heade
 
 use crate::{Node, bytes, layout};
 
+// The two bytes of a field, the high one first, each for its own place: to_be_bytes would want a u16 and a slice to copy into.
 pub fn high(v: usize) -> u8
     requires { v < 65536 }
     ensures { result ≡ v / 256 }
