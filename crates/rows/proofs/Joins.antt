@@ -114,11 +114,11 @@ join_turn whole out left words ho hz hl hw inv =
 -- the loop's end: nothing is left
 
 -- the same, for the next cycle of a set
-pub join_next : (whole out i : ℕ) (s t : Cycles) (words : ℕ → ℕ) → out < 2 ^ 64 → s.left < 2 ^ 64 → GivesLeast s (Some i) t → words i < 2 ^ 64
-    → whole ≡ bit_or out (joined s.left words) → (t.left < 2 ^ 64) × (whole ≡ bit_or (bit_or out (words i)) (joined t.left words))
+pub join_next : (whole out i : ℕ) (s t : Cycles) (words : ℕ → ℕ) → out < 2 ^ 64 → s.0 < 2 ^ 64 → GivesLeast s (Some i) t → words i < 2 ^ 64
+    → whole ≡ bit_or out (joined s.0 words) → (t.0 < 2 ^ 64) × (whole ≡ bit_or (bit_or out (words i)) (joined t.0 words))
 join_next whole out i s t words ho hs g hw inv =
     rw (g.2, g.1)
-    (omega (arith, and_le_r s.left (s.left - 1)), join_turn whole out s.left words ho g.0 hs (subst (λ (k : ℕ). words k < 2 ^ 64) g.1 hw) inv)
+    (omega (arith, and_le_r s.0 (s.0 - 1)), join_turn whole out s.0 words ho g.0 hs (subst (λ (k : ℕ). words k < 2 ^ 64) g.1 hw) inv)
 
 pub join_end : (set out left : ℕ) (words : ℕ → ℕ) → left ≡ 0 → joined set words ≡ bit_or out (joined left words) → out ≡ joined set words
 join_end set out left words none inv =

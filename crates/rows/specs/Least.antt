@@ -7,4 +7,4 @@ use Rattle.rows.specs.declared.cycles.Cycles.{Cycles}
 -- the least cycle, and the set without it; nothing of an empty set
 abbrev pub GivesLeast : Cycles → Option ℕ → Cycles → Type 0
 GivesLeast s r t =
-    MatchOption r (s.left ≡ 0) (λ i. (0 < s.left) × (i ≡ trailing_zeros w64 s.left) × (t.left ≡ bit_and s.left (s.left - 1)))
+    MatchOption r (s.0 ≡ 0) (λ i. (0 < s.0) × (i ≡ trailing_zeros w64 s.0) × (t.0 ≡ bit_and s.0 (s.0 - 1)))

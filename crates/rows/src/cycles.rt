@@ -2,27 +2,25 @@
 ghost use Rattle.std.specs.Iterator.{at_most};
 ghost use Rattle.rows.specs.Least.{GivesLeast};
 
-// Those that are still to come: a set's cycles, from the least on.
-#[derive(Clone, Copy)]
-pub(crate) struct Cycles {
-    pub(crate) left: u64,
-}
+// The set of those still to come; the least comes next.
+#[derive(Clone, Drop)]
+pub(crate) struct Cycles(pub(crate) u64);
 
 impl Iterator for Cycles {
     type Item = usize;
 
     ghost next_gives = { GivesLeast };
 
-    // A set has fewer cycles than its word says as a number.
-    ghost remaining = { λ s. at_most s.left };
+    // A set has no more cycles than its word says as a number.
+    ghost remaining = { λ s. at_most s.0 };
 
     #[inline(always)]
     fn next(&mut self) -> Option<usize> {
-        if self.left == 0 {
+        if self.0 == 0 {
             return None;
         }
-        let least = self.left.trailing_zeros() as usize;
-        self.left &= self.left - 1;
+        let least = self.0.trailing_zeros() as usize;
+        self.0 &= self.0 - 1;
         Some(least)
     }
 }

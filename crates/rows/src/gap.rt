@@ -19,7 +19,7 @@ fn spread(set: u64, distances: u64) -> u64
     ensures { result ≡ joined set (shifted distances) }
 {
     let mut out = 0;
-    for i in (Cycles { left: set }) {
+    for i in Cycles(set) {
         out |= distances << i;
     }
     out

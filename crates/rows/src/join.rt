@@ -10,7 +10,7 @@ pub fn join(row: u64, second: &[u64]) -> u64
     ensures { result ≡ joined row (λ i. get_or second.now i 0) }
 {
     let mut out = 0;
-    for i in (Cycles { left: row }) {
+    for i in Cycles(row) {
         out |= second[i];
     }
     out

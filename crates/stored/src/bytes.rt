@@ -10,6 +10,7 @@ pub fn byte(s: &[u8], k: usize) -> usize
 }
 
 // The big-endian field of two bytes at k.
+#[tactic(auto, unfolding(crate::specs::Bytes::word))]
 pub fn word(s: &[u8], k: usize) -> usize
     requires { k + 1 < length s.now }
     ensures { (result ≡ word s.now k) × (result < 65536) }
@@ -25,12 +26,10 @@ pub(crate) fn listed(table: &[u8], i: usize) -> usize
 }
 
 // It has `least` bytes or more, and bytes 0–1 are its length less 2.
+#[tactic(auto, unfolding(crate::specs::Bytes::framed_from))]
 pub fn is_framed(s: &[u8], least: usize) -> bool
     requires { 2 ≤ least }
     ensures { result ≡ framed_from least s.now }
 {
-    if s.len() < least {
-        return false;
-    }
-    word(s, 0) == s.len() - 2
+    least <= s.len() && word(s, 0) == s.len() - 2
 }

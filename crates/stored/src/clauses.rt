@@ -20,6 +20,7 @@ pub const ADVICE: usize = 2;
 static PARTS: [u8; 7] = [0, 1, 2, 1, 2, 3, 3];
 
 // Clause k of a clause part.
+#[tactic(auto, unfolding(crate::specs::Clause::stored_at))]
 pub fn stored_at(clauses: &[u8], k: usize) -> StoredClause
     requires { clause_size * k + clause_size ≤ length clauses.now }
     ensures { result ≡ stored_at clauses.now k }
@@ -46,6 +47,7 @@ pub fn stored_at(clauses: &[u8], k: usize) -> StoredClause
 }
 
 // How many parts a type uses.
+#[tactic(auto, unfolding(crate::specs::Clause::parts_used))]
 pub fn parts_used(clause_type: usize) -> usize
     ensures { result ≡ parts_used clause_type }
 {
@@ -53,6 +55,7 @@ pub fn parts_used(clause_type: usize) -> usize
 }
 
 // A used root is a formula node; an unused root and mask are zero.
+#[tactic(auto, unfolding(crate::specs::Clause::part_right))]
 fn part_ok(nodes: &[u8], n: usize, used: bool, root: usize, mask: usize) -> bool
     requires { node_size * n ≤ length nodes.now }
     ensures { result ≡ part_right (node_at nodes.now) n used root mask }
@@ -60,23 +63,21 @@ fn part_ok(nodes: &[u8], n: usize, used: bool, root: usize, mask: usize) -> bool
     if used {
         nodes::is_formula_node(nodes, n, root)
     } else {
-        (root == 0) & (mask == 0)
+        root == 0 && mask == 0
     }
 }
 
+#[tactic(auto, unfolding(crate::specs::Clause::clause_right))]
 fn clause_ok(nodes: &[u8], n: usize, d: StoredClause) -> bool
     requires { node_size * n ≤ length nodes.now }
     ensures { result ≡ clause_right (node_at nodes.now) n d }
 {
-    let clause_type = d.clause_type;
-    let role = d.role;
-    let used = parts_used(clause_type);
-    let typed = (1 <= clause_type) & (clause_type <= 6);
-    let roled = role <= ADVICE;
-    let first = part_ok(nodes, n, 0 < used, d.root1, d.mask1);
-    let second = part_ok(nodes, n, 1 < used, d.root2, d.mask2);
-    let third = part_ok(nodes, n, 2 < used, d.root3, d.mask3);
-    typed & (roled & (first & (second & third)))
+    let used = parts_used(d.clause_type);
+    (1..=6).contains(&d.clause_type)
+        && d.role <= ADVICE
+        && part_ok(nodes, n, 0 < used, d.root1, d.mask1)
+        && part_ok(nodes, n, 1 < used, d.root2, d.mask2)
+        && part_ok(nodes, n, 2 < used, d.root3, d.mask3)
 }
 
 // Rule 8: every clause's fields are right.
@@ -88,26 +89,23 @@ pub fn clauses_ok(nodes: &[u8], n: usize, clauses: &[u8], c: usize) -> bool
 }
 
 // The mask has bits for names below m only and, if the part is used, for every name that its root reaches.
+#[tactic(auto, using(crate::proofs::Rules::shift_one), unfolding(crate::specs::Clause::part_covered, crate::specs::Reach::joint))]
 fn part_covered(table: &[usize], m: usize, used: bool, root: usize, mask: usize) -> bool
     requires { m < 64 }
     ensures { result ≡ part_covered table.now m used root mask }
 {
-    let end = 1usize << m;
-    let known = mask < end;
-    let reached = masks::entry_of(table, root);
-    let covered = (reached | mask) == mask;
-    known & (!used | covered)
+    mask < 1 << m && (!used || masks::entry_of(table, root) | mask == mask)
 }
 
+#[tactic(auto, unfolding(crate::specs::Clause::clause_covered))]
 fn clause_covered(table: &[usize], m: usize, d: StoredClause) -> bool
     requires { m < 64 }
     ensures { result ≡ clause_covered table.now m d }
 {
     let used = parts_used(d.clause_type);
-    let first = part_covered(table, m, 0 < used, d.root1, d.mask1);
-    let second = part_covered(table, m, 1 < used, d.root2, d.mask2);
-    let third = part_covered(table, m, 2 < used, d.root3, d.mask3);
-    first & (second & third)
+    part_covered(table, m, 0 < used, d.root1, d.mask1)
+        && part_covered(table, m, 1 < used, d.root2, d.mask2)
+        && part_covered(table, m, 2 < used, d.root3, d.mask3)
 }
 
 fn all_covered(table: &[usize], m: usize, clauses: &[u8], c: usize) -> bool
@@ -118,6 +116,7 @@ fn all_covered(table: &[usize], m: usize, clauses: &[u8], c: usize) -> bool
 }
 
 // Rule 9: every mask has bits for names below m only, and covers what its part reaches.
+#[tactic(auto, unfolding(crate::specs::Reach::reach_table))]
 pub fn clauses_covered(nodes: &[u8], n: usize, m: usize, clauses: &[u8], c: usize) -> bool
     requires { (n ≤ most_nodes) × (node_size * n ≤ length nodes.now) × (m < 64) × (clause_size * c ≤ length clauses.now) }
     ensures { result ≡ every_below c (clause_covered_at (reach_table (node_at nodes.now) n) m (stored_at clauses.now)) }

@@ -13,6 +13,7 @@ use rows::mask::has;
 // Name u as a mask.
 static NAMES: [u8; layout::MOST_NAMES] = [1, 2, 4];
 
+#[tactic(auto, unfolding(crate::specs::Reach::name_mask))]
 pub fn name_mask(u: usize) -> usize
     ensures { result ≡ name_mask u }
 {
@@ -28,6 +29,7 @@ pub fn has_name(mask: usize, u: usize) -> bool
 }
 
 // Entry i of a table, 0 past its end.
+#[tactic(auto, unfolding(crate::specs::Reach::entry_of))]
 pub fn entry_of(table: &[usize], i: usize) -> usize
     ensures { result ≡ entry_of table.now i }
 {
@@ -47,6 +49,7 @@ fn field_reach(table: &[usize], what: Use, v: usize) -> usize
     }
 }
 
+#[tactic(auto, unfolding(crate::specs::Reach::node_reach, crate::specs::Reach::joint))]
 fn node_reach(table: &[usize], x: Node) -> usize
     ensures { result ≡ node_reach (entry_of table.now) x }
 {

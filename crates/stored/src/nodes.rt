@@ -94,6 +94,7 @@ pub fn b_use(op: usize) -> Use
 }
 
 // Node i of a node part.
+#[tactic(auto, unfolding(crate::specs::Node::node_at))]
 pub fn node_at(nodes: &[u8], i: usize) -> Node
     requires { node_size * i + node_size ≤ length nodes.now }
     ensures { result ≡ node_at nodes.now i }
@@ -117,7 +118,7 @@ fn field_ok(s: usize, m: usize, what: Use, v: usize) -> bool
         Use::Name => v < m,
         Use::Comparison => v < 5,
         Use::Symbol => v < 8,
-        Use::TwoNames => (v / 16 < m) & (v % 16 < m),
+        Use::TwoNames => v / 16 < m && v % 16 < m,
         Use::Number | Use::PropositionNode | Use::FormulaNode => true,
     }
 }
@@ -126,15 +127,11 @@ fn field_ok(s: usize, m: usize, what: Use, v: usize) -> bool
 fn fields_ok(s: usize, m: usize, x: Node) -> bool
     ensures { result ≡ fields_right requirement_sorts s m x }
 {
-    let op = x.op;
-    let a = x.a;
-    let b = x.b;
-    let known = sort_of(op).is_some();
-    let q_ok = field_ok(s, m, q_use(op), x.q);
-    let a_ok = field_ok(s, m, a_use(op), a);
-    let b_ok = field_ok(s, m, b_use(op), b);
-    let gap = (op != ops::GAP) | (a <= b);
-    known & (q_ok & (a_ok & (b_ok & gap)))
+    sort_of(x.op).is_some()
+        && field_ok(s, m, q_use(x.op), x.q)
+        && field_ok(s, m, a_use(x.op), x.a)
+        && field_ok(s, m, b_use(x.op), x.b)
+        && (x.op != ops::GAP || x.a <= x.b)
 }
 
 // Rule 6: every node's fields are right.
@@ -171,15 +168,13 @@ fn operand_ok(nodes: &[u8], i: usize, what: Use, v: usize) -> bool
     }
 }
 
+#[tactic(auto, unfolding(crate::specs::Node::operands_right))]
 fn operands_ok_at(nodes: &[u8], i: usize) -> bool
     requires { node_size * i + node_size ≤ length nodes.now }
     ensures { result ≡ operands_right requirement_sorts (node_at nodes.now) i }
 {
     let x = node_at(nodes, i);
-    let op = x.op;
-    let a_ok = operand_ok(nodes, i, a_use(op), x.a);
-    let b_ok = operand_ok(nodes, i, b_use(op), x.b);
-    a_ok & b_ok
+    operand_ok(nodes, i, a_use(x.op), x.a) && operand_ok(nodes, i, b_use(x.op), x.b)
 }
 
 // Rule 7: every operand is an earlier node of the sort needed.

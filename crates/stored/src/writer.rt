@@ -7,6 +7,7 @@ ghost use Rattle.stored.specs.Written.{NodeFits, node_bytes, put_node, put_heade
 
 use crate::{Node, bytes, layout};
 
+// The two bytes of a field, the high one first, each for its own place: to_be_bytes would want a u16 and a slice to copy into.
 pub fn high(v: usize) -> u8
     requires { v < 65536 }
     ensures { result ≡ v / 256 }
@@ -36,6 +37,7 @@ pub fn write_node(out: &mut [u8], at: usize, x: Node)
 }
 
 // Node i of a sheet.
+#[tactic(auto, unfolding(crate::specs::Written::put_node))]
 pub fn put_node(out: &mut [u8], i: usize, x: Node)
     requires { (i < 65536) × (nodes_end (i + 1) ≤ length out.old) × NodeFits x }
     ensures { out.new ≡ put_node out.old i x }
@@ -61,6 +63,7 @@ pub fn put_header(out: &mut [u8], kind: usize, s: usize, m: usize, n: usize, c: 
 }
 
 // How many nodes the header counts.
+#[tactic(auto, unfolding(crate::specs::Sheet::header_of))]
 pub fn count(out: &[u8]) -> usize
     requires { nodes_start ≤ length out.now }
     ensures { (result ≡ (header_of out.now).nodes) × (result < 65536) }

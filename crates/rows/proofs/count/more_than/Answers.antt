@@ -3,7 +3,7 @@ use mathlib.Core.Path.{◌≡◌, sym, ap, subst}
 use Prim.Native.Nat.{ℕ, ◌-◌, ◌+◌, ◌^◌}
 use native.Mathlib.Omega.{arith}
 use lib.Bits.{bit_and}
-use lib.Count.{ones, trailing_le}
+use lib.Count.{ones}
 use Rattle.rows.proofs.Counts.{Dropped, dropped_none, dropped_some, dropped_more, few_above, dropped_above}
 use Rattle.rows.proofs.count.more_than.Goals as goal
 
@@ -31,9 +31,6 @@ loop-preserved c =
     let at = c.loop in
     let fewer : a.number - at.counter - 1 ≡ a.number - (at.counter + 1) = omega arith in
     (at.invariant.0, rw (← fewer) (dropped_more _ _ _ _ _ at.invariant.1 (dropped_some _ _ _ _ _ at.invariant.1 at.invariant.0) (omega arith)))
-
-pub overflow_add-left : goal.overflow_add-left
-overflow_add-left c = omega (arith, trailing_le 64 c.loop.left)
 
 pub returns : goal.returns
 returns c =

@@ -18,4 +18,4 @@ loop-i-preserved c =
 pub returns : goal.returns
 returns c =
     let at = c.loop-i in
-    join_end c.args.set at.out at.i-iterator.left (shifted c.args.distances) c.in-None.ensures.steps at.invariant.1
+    join_end c.args.set at.out at.i-iterator.0 (shifted c.args.distances) c.in-None.ensures.steps at.invariant.1

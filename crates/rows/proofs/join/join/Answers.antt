@@ -13,4 +13,4 @@ loop-i-preserved c =
 pub returns : goal.returns
 returns c =
     let at = c.loop-i in
-    join_end c.args.row at.out at.i-iterator.left (λ i. get_or c.args.second.now i 0) c.in-None.ensures.steps at.invariant.1
+    join_end c.args.row at.out at.i-iterator.0 (λ i. get_or c.args.second.now i 0) c.in-None.ensures.steps at.invariant.1

@@ -8,4 +8,4 @@ use Rattle.rows.proofs.join.join.Given as goal
 
 abbrev pub invariant-loop-i : goal.invariant-loop-i
 invariant-loop-i l =
-    (l.i-iterator.left < 2 ^ 64) × (joined l.row (λ i. get_or l.second i 0) ≡ bit_or l.out (joined l.i-iterator.left (λ i. get_or l.second i 0)))
+    (l.i-iterator.0 < 2 ^ 64) × (joined l.row (λ i. get_or l.second i 0) ≡ bit_or l.out (joined l.i-iterator.0 (λ i. get_or l.second i 0)))

@@ -1,15 +1,9 @@
 -- `rows::mask::below` meets its contract.
 use native.Mathlib.Omega.{arith}
-use lib.Pow.{pow_pos}
 use lib.Dec.{ltb}
 use borrow.Author.Tests.{lt-ltb}
-use Rattle.rows.proofs.Masks.{one_shifted, below_is, all_is}
+use Rattle.rows.proofs.Masks.{below_is, all_is}
 use Rattle.rows.proofs.mask.below.Goals as goal
-
-pub overflow_sub-result : goal.overflow_sub-result
-overflow_sub-result c =
-    let k = c.args.k in
-    omega (arith, one_shifted 64 k (omega arith), pow_pos k)
 
 pub returns-then-k-lt64 : goal.returns-then-k-lt64
 returns-then-k-lt64 c = below_is 64 c.args.k (omega arith)

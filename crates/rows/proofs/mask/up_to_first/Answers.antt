@@ -1,12 +1,8 @@
 -- `rows::mask::up_to_first` meets its contract.
 use mathlib.Core.Path.{◌∙◌}
 use native.Mathlib.Omega.{arith}
-use lib.Count.{trailing_le}
 use Rattle.rows.proofs.Masks.{up_to_first_is}
 use Rattle.rows.proofs.mask.up_to_first.Goals as goal
-
-pub overflow_cast-set : goal.overflow_cast-set
-overflow_cast-set c = omega (arith, trailing_le 64 c.args.set)
 
 pub returns : goal.returns
 returns c = c.up_to.ensures ∙ up_to_first_is 64 c.args.set (omega arith)

@@ -1,60 +1,7 @@
 -- `stored::writer::write_node` meets its contract.
-use native.Mathlib.Omega.{arith}
-use lib.ListN.{length-set}
 use native.Mathlib.Numerals.{towards_suc}
 use Rattle.stored.specs.Written.{node_bytes}
 use Rattle.stored.proofs.writer.write_node.Goals as goal
-
-pub overflow_cast-out : goal.overflow_cast-out
-overflow_cast-out c = omega arith
-
-pub bounds-out-at : goal.bounds-out-at
-bounds-out-at c = omega arith
-
-pub overflow_cast-out-2 : goal.overflow_cast-out-2
-overflow_cast-out-2 c = omega arith
-
-pub overflow_add-out : goal.overflow_add-out
-overflow_add-out c = omega arith
-
-pub bounds-out-at-2 : goal.bounds-out-at-2
-bounds-out-at-2 c = simp length-set (omega arith)
-
-pub high-requires : goal.high-requires
-high-requires c = omega arith
-
-pub overflow_add-out-2 : goal.overflow_add-out-2
-overflow_add-out-2 c = omega arith
-
-pub bounds-out-at-3 : goal.bounds-out-at-3
-bounds-out-at-3 c = simp length-set (omega arith)
-
-pub low-requires : goal.low-requires
-low-requires c = omega arith
-
-pub overflow_add-out-3 : goal.overflow_add-out-3
-overflow_add-out-3 c = omega arith
-
-pub bounds-out-at-4 : goal.bounds-out-at-4
-bounds-out-at-4 c = simp length-set (omega arith)
-
-pub high-requires-2 : goal.high-requires-2
-high-requires-2 c = omega arith
-
-pub overflow_add-out-4 : goal.overflow_add-out-4
-overflow_add-out-4 c = omega arith
-
-pub bounds-out-at-5 : goal.bounds-out-at-5
-bounds-out-at-5 c = simp length-set (omega arith)
-
-pub low-requires-2 : goal.low-requires-2
-low-requires-2 c = omega arith
-
-pub overflow_add-out-5 : goal.overflow_add-out-5
-overflow_add-out-5 c = omega arith
-
-pub bounds-out-at-6 : goal.bounds-out-at-6
-bounds-out-at-6 c = simp length-set (omega arith)
 
 pub returns : goal.returns
 unfolding node_bytes

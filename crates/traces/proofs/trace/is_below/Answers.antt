@@ -7,9 +7,6 @@ use native.Mathlib.Nat.{pow-le-pow_right}
 use Rattle.stored.proofs.Rules.{shift_one}
 use Rattle.traces.proofs.trace.is_below.Goals as goal
 
-pub overflow_shl-end : goal.overflow_shl-end
-overflow_shl-end c = omega arith
-
 pub returns-then-s-lt-MOST_SIGNALS : goal.returns-then-s-lt-MOST_SIGNALS
 returns-then-s-lt-MOST_SIGNALS c = rw (shift_one c.args.s (omega arith))
 
