@@ -28,7 +28,7 @@ use Rattle.tables.specs.Table.{row_at, Table, Tables}
 use Rattle.tables.specs.Ready.{Given, Ready, Before, Filled, Kept, apart}
 use Rattle.tables.specs.Step.{column_of, first_column, second_column, row_of}
 use Rattle.tables.specs.Step as step
-use Rattle.tables.proofs.Rows.{joined_chosen, joined_ext}
+use Rattle.tables.proofs.Rows.{joined_chosen}
 use Rattle.tables.proofs.Columns.{tells}
 use Rattle.tables.proofs.Uses.{joins_formula}
 use Rattle.tables.proofs.Nodes.{operands_at, usable}
