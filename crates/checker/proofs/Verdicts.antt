@@ -4,8 +4,7 @@ use native.Mathlib.Omega.{arith}
 use mathlib.Core.Bool.{Bool, true, false, cond}
 use mathlib.Core.Logic.{inl, inr}
 use native.Mathlib.Nat.{eq-or-lt_of_le}
-use mathlib.Core.List.{List}
-use mathlib.Core.Path.{◌≡◌, refl, sym, ap, ap₂, subst, ◌∙◌}
+use mathlib.Core.Path.{◌≡◌, refl, sym, ap, ap₂, ◌∙◌}
 use lib.Bits.{bit_or}
 use lib.Dec.{eqb}
 use lib.ListN.{length}
@@ -21,17 +20,14 @@ use Rattle.rows.proofs.Masks.{only_is}
 use Rattle.stored.specs.declared.Node.{Node}
 use Rattle.stored.specs.declared.StoredClause.{StoredClause}
 use Rattle.stored.specs.Bytes.{in_order}
-use Rattle.stored.specs.Clause.{last_role, stored_at, clause_of, role_of}
+use Rattle.stored.specs.Clause.{last_role, clause_of, role_of}
 use Rattle.stored.proofs.Roles.{same_role_lem}
-use Rattle.traces.specs.Columns.{trace_of}
-use Rattle.stored.specs.Node.{node_at}
 use Rattle.checker.specs.declared.check.Finding.TheVariants.{Excused, Broken, Holds}
 use Rattle.intervals.specs.Places.{places, numbered, IsLeast}
 use Rattle.checker.specs.declared.failing.Failing.{Failing}
 use Rattle.checker.specs.Check.{told}
 use Rattle.std.proofs.Common.{Option, None, Some, is_some}
-use Rattle.checker.specs.Clauses.{PlaceIs, First, FailingIs, clause_at, place_of}
-use Rattle.places.specs.Laid.{Laid}
+use Rattle.checker.specs.Clauses.{PlaceIs, First, place_of}
 use Rattle.intervals.proofs.Places.{fails_least, place_least}
 
 -- ---- the first failing clause of a list in order

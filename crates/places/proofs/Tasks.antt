@@ -19,8 +19,6 @@ use Rattle.stored.specs.Clause.{part_of}
 use Rattle.stored.specs.Tree.{formula_at}
 use Rattle.stored.proofs.Accepted.{type_cases}
 use Rattle.stored.proofs.NameSets.{no_mask, both_masks, less_mask}
-use Rattle.intervals.specs.declared.search.ClauseType.{ClauseType}
-use Rattle.places.specs.declared.task.Task.{Task}
 use Rattle.tables.specs.Table.{standing}
 use Rattle.intervals.specs.Search.{fresh, quantified, premise, reply, on_inside, short_inside, answered, missed, missed_by}
 use Rattle.intervals.specs.Places.{numbered, IsLeast}

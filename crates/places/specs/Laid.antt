@@ -1,5 +1,5 @@
 -- The state of a walk over placements, and what it finds.
-use Rattle.std.specs.Prelude.{ℕ, zero, suc, ◌-◌, ◌≤◌, ◌<◌, Bool, true, false, cond, List, ◌≡◌, length, set}
+use Rattle.std.specs.Prelude.{ℕ, zero, suc, ◌-◌, ◌≤◌, ◌<◌, Bool, false, cond, List, ◌≡◌, length, set}
 use Rattle.semantics.specs.Proposition.{Trace, bit}
 use Rattle.semantics.specs.Placement.{Names, Placement, place_name}
 use Rattle.traces.specs.Columns.{trace_of}

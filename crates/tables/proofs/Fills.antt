@@ -50,7 +50,24 @@ one_stored own b v want p long e later =
     one_there (set own (b - 1) v) b want p (get_or-set_same own (b - 1) v 0 (omega arith) ∙ e)
     (λ c l h. get_or-set_other own (b - 1) c v 0 (omega arith) ∙ later c l h)
 
--- what a star joins from its own rows after c stays, where a row up to c is stored
+-- a stored row leaves the others
+pub row_other : (words : List ℕ) (i b v k c : ℕ) → b < 64 → c < 64 → (k ≡ i → c ≡ b → ⊥) → row_at (set words (64 * i + b) v) k c ≡ row_at words k c
+unfolding row_at
+row_other words i b v k c l m ne =
+    get_or-set_other words (64 * i + b) (64 * k + c) v 0
+    (λ e. let same : k ≡ i = omega arith in ne same (omega arith))
+
+-- what is joined from a node's own rows after b stays, where row b is stored
+pub joined_own : (words : List ℕ) (i b v links later : ℕ) → b < 64 → later ≡ bit_and links (2 ^ 64 - 1 - word 64 (λ e. ltb e (b + 1)))
+    → joined later (row_at words i) ≡ joined later (row_at (set words (64 * i + b) v) i)
+joined_own words i b v links later l e =
+    joined_chosen later (row_at words i) (row_at (set words (64 * i + b) v) i)
+    (λ c m s.
+    let there = sym (cut_bit 64 links (b + 1) c m) ∙ ap (λ (x : ℕ). bit x c) (sym e) ∙ s in
+    let past = leb-true (b + 1) c (and_right (bit links c) (leb (b + 1) c) there) in
+    sym (row_other words i b v i c l m (λ _ y. absurd (omega arith))))
+
+-- the same of the rows by themselves, where a row up to c is stored
 pub joined_after : (own : List ℕ) (b v links c : ℕ) → b ≤ c
     → let later = bit_and links (2 ^ 64 - 1 - word 64 (λ e. ltb e (c + 1))) in
     joined later (λ k. get_or own k 0) ≡ joined later (λ k. get_or (set own b v) k 0)
@@ -79,10 +96,6 @@ module _ {x : ℕ → Node} {σ : Trace} {μ : Marks} {n : ℕ} (few : n ≤ 64)
         rows = λ s b h. same b (omega arith) ∙ t.rows s b h;
         column = λ s. same 0 (omega arith) ∙ t.column s;
       }
-
-  pub before_kept : (i : ℕ) (old new : List ℕ) → ((k c : ℕ) → c < 64 → (k ≡ i → ⊥) → row_at new k c ≡ row_at old k c) → Before x σ μ n old i → Before x σ μ n new i
-  before_kept i old new same t =
-      record { earlier = λ k h. table_kept old new k (λ c l. same k c l (λ e. let z : k < i = h in omega arith)) (t.earlier k h) }
 
   -- where node i was filled
   put_at_lem : (i : ℕ) (old new : List ℕ) (k : ℕ) → Filled x σ μ n i old new → ((k ≡ i → ⊥) → Table x σ μ n old k) → Table x σ μ n new k

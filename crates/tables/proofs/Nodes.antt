@@ -20,8 +20,8 @@ use Rattle.stored.proofs.Rules.{every_at}
 use Rattle.stored.proofs.Tree.{operands}
 use Rattle.stored.proofs.Reach.{NodesKept}
 use Rattle.tables.specs.Ready.{Given}
-use Rattle.tables.specs.Step.{Usable, is_pair}
-use Rattle.tables.proofs.Uses.{Ops, proposition_ops, formula_ops_lem, formula_left, joins_formula, pair_of, pair_formula, pair_right, star_formula}
+use Rattle.tables.specs.Step.{Usable}
+use Rattle.tables.proofs.Uses.{Ops, proposition_ops, formula_ops_lem, formula_left, joins_formula, star_formula}
 
 -- what a field's use says of its value
 record FieldKept (s m : ℕ) (what : Use) (v : ℕ) : Type 0 where
@@ -62,14 +62,6 @@ node_kept s m x h =
       q_field = field_kept s m (q_use x.op) x.q (and_left (field_right s m (q_use x.op) x.q) _ r₁);
       a_field = field_kept s m (a_use x.op) x.a (and_left (field_right s m (a_use x.op) x.a) _ r₂);
     }
-
--- a chop after i nodes: its operands are among them
-pub record Chop (x : ℕ → Node) (i : ℕ) (r : Node) : Type 0 where
-  pub op : r.op ≡ 20
-  pub pair : is_pair r.op ≡ true
-  pub formula : sort_of requirement_sorts (x i).op ≡ formula
-  pub first : r.a < i
-  pub second : r.b < i
 
 -- a star after i nodes: its operand is among them
 pub record Star (x : ℕ → Node) (i : ℕ) (r : Node) : Type 0 where
@@ -134,20 +126,6 @@ module _ {nodes : List ℕ} {count n : ℕ} {columns words : List ℕ} (g : Give
   pub formula_read : (i : ℕ) (r : Node) → i < count → r ≡ node_at nodes i → sort_of requirement_sorts (node_at nodes i).op ≡ formula → Usable r i × Ops 16 30 r.op
   formula_read i r h e s =
       subst (λ (y : Node). Usable y i × Ops 16 30 y.op) (sym e) (usable i h, formula_ops_lem (node_at nodes i).op s)
-
-  -- a chop that was read
-  pub chop_read : (i : ℕ) (r : Node) → i < count → r ≡ node_at nodes i → (node_at nodes i).op ≡ 20 → Chop (node_at nodes) i r
-  chop_read i r h e o =
-      let at : r.op ≡ 20 = ap (λ (y : Node). y.op) e ∙ o in
-      let u = subst (λ (y : Node). Usable y i) (sym e) (usable i h) in
-      let pair = pair_of r.op (omega arith) (omega arith) in
-      record {
-        op = at;
-        pair = pair;
-        formula = pair_formula _ (pair_of _ (omega arith) (omega arith));
-        first = u.a_formula (joins_formula r.op (omega arith) (omega arith));
-        second = u.b_formula (pair_right r.op pair);
-      }
 
   -- a star that was read
   pub star_read : (i : ℕ) (r : Node) → i < count → r ≡ node_at nodes i → (node_at nodes i).op ≡ 23 → Star (node_at nodes) i r

@@ -101,10 +101,6 @@ pair_told P p q r k e =
       ]
     ]
 
-pub pair_formula : (k : ℕ) → is_pair k ≡ true → sort_of requirement_sorts k ≡ formula
-unfolding sort_of
-pair_formula = pair_told (λ k. sort_of requirement_sorts k ≡ formula) refl refl refl
-
 pub pair_right : (k : ℕ) → is_pair k ≡ true → b_use k ≡ FormulaNode
 unfolding b_use
 pair_right = pair_told (λ k. b_use k ≡ FormulaNode) refl refl refl
@@ -117,15 +113,7 @@ pub pair_second : (k : ℕ) (x : Node) (columns : List ℕ) → is_pair k ≡ tr
 unfolding second_column of_two q_use
 pair_second k x columns = pair_told (λ k. 0 ≡ second_column k x columns) refl refl refl k
 
--- star: over the rows of one formula and its own, and over no columns
+-- star: over the rows of one formula and its own
 pub star_formula : (k : ℕ) → k ≡ 23 → sort_of requirement_sorts k ≡ formula
 unfolding sort_of
 star_formula k e = rw e
-
-pub star_first : (k : ℕ) (x : Node) (columns words : List ℕ) → k ≡ 23 → 0 ≡ first_column k x columns words
-unfolding first_column of_first of_two a_use q_use
-star_first k x columns words e = rw e
-
-pub star_second : (k : ℕ) (x : Node) (columns : List ℕ) → k ≡ 23 → 0 ≡ second_column k x columns
-unfolding second_column of_two q_use
-star_second k x columns e = rw e

@@ -1,6 +1,6 @@
 -- `checker::check::finding_over` meets its contract.
 use Rattle.std.proofs.Common.{ℕ, ◌<◌, ◌≡◌, false, ap, subst, ◌∙◌}
-use Rattle.semantics.specs.Clause.{Clause, assumption_role, commitment}
+use Rattle.semantics.specs.Clause.{commitment}
 use Rattle.semantics.specs.Proposition.{Trace}
 use Rattle.semantics.specs.Verdict.{fails_as}
 use Rattle.stored.specs.Clause.{role_of}

@@ -1,6 +1,6 @@
 -- `checker::failing::failing_advice` meets its contract. The loop's invariant: the byte has the bits of the clauses so far.
 use mathlib.Core.Path.{◌≡◌}
-use Prim.Native.Nat.{◌-◌, ◌≤◌}
+use Prim.Native.Nat.{◌≤◌}
 use lib.ListN.{length}
 use Rattle.rows.specs.Row.{word}
 use Rattle.traces.specs.Columns.{trace_of}

@@ -1,6 +1,6 @@
 -- `checker::failing::first_failing` meets its contract.
 use mathlib.Core.Path.{◌≡◌}
-use Prim.Native.Nat.{ℕ, ◌-◌, ◌≤◌, ◌<◌}
+use Prim.Native.Nat.{ℕ, ◌≤◌, ◌<◌}
 use mathlib.Core.Bool.{false}
 use lib.ListN.{length}
 use Rattle.semantics.specs.Verdict.{fails_as}

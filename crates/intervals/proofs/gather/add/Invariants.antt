@@ -1,5 +1,5 @@
 -- `intervals::gather::add` meets its contract.
-use Prim.Native.Nat.{◌-◌, ◌≤◌}
+use Prim.Native.Nat.{◌≤◌}
 use mathlib.Core.Path.{◌≡◌}
 use lib.ListN.{length}
 use Rattle.intervals.proofs.Gathered.{cut_row, Added}

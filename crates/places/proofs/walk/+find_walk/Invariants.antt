@@ -1,6 +1,6 @@
 -- The cycle of calls {find, walk}: a walk for places comes to `find` once no name is left, and that walks over the names of the answer.
 -- A walk's measure is how many names are left, and for places it lies above the other's.
-use Rattle.std.proofs.Common.{◌+◌, ◌-◌, ◌≡◌, ◌≤◌, length}
+use Rattle.std.proofs.Common.{◌+◌, ◌≡◌, ◌≤◌, length}
 use Rattle.semantics.specs.Cycles.{some_from}
 use Rattle.traces.specs.Columns.{trace_of}
 use Rattle.places.specs.Laid.{LaidFor, Walked}
