@@ -92,10 +92,8 @@ module _ {x : ℕ → Node} {marks : List Bool} {y map : List ℕ} {i : ℕ} (ri
     keep_same : (k : ℕ) → k < i + 1 → Live marks k → Same x k z (entry_of (set map i r) k)
     keep_same k l live =
         elim (test (eqb k i)) [
-          | inl e ↦ subst (λ (o : ℕ). Same x o z (entry_of (set map i r) o)) (sym (eqb-true k i e)) (subst (Same x i z) (sym entry_i) is)
-          | inr e ↦ let other = eqb-false k i e in
-              let less : k < i = omega arith in
-              subst (Same x k z) (sym (entry_old map i r k less)) (same_kept new.step (h.same k less live))
+          | inl e ↦ rw (eqb-true k i e, entry_i) is
+          | inr e ↦ let less : k < i = grind arith in rw (entry_old map i r k less) (same_kept new.step (h.same k less live))
         ]
 
     keep_placed : (k : ℕ) → k < i + 1 → Live marks k → entry_of (set map i r) k < count z
@@ -104,15 +102,7 @@ module _ {x : ℕ → Node} {marks : List Bool} {y map : List ℕ} {i : ℕ} (ri
     keep_linked : (j k : ℕ) → j < i + 1 → Live marks j → has_operand (x j) k ≡ true → has_operand (node_in z (entry_of (set map i r) j)) (entry_of (set map i r) k) ≡ true
     keep_linked j k l live e =
         let below = operand_less emitted_sorts x j k (right j (omega arith)) e in
-        let at-k : entry_of (set map i r) k ≡ entry_of map k = entry_old map i r k (omega arith) in
-        elim (test (eqb j i)) [
-          | inl f ↦ let at_j : entry_of (set map i r) j ≡ r = ap (entry_of (set map i r)) (eqb-true j i f) ∙ entry_i in
-              rw (at_j, at-k) (rw new.node (operand_copied map (x i) k (subst (λ (o : ℕ). has_operand (x o) k ≡ true) (eqb-true j i f) e)))
-          | inr f ↦ let other = eqb-false j i f in
-              let less : j < i = omega arith in
-              let at_j = entry_old map i r j less in
-              rw (at_j, at-k) (rw (new.step.same (entry_of map j) (h.placed j less live)) (h.linked j k less live e))
-        ]
+        grind (arith, entry_i, entry_old map i r, new.node, new.step.same, operand_copied map (x i) k, h.placed j, h.linked j k)
 
     keep_came : (q : ℕ) → q < count z → Came marks (set map i r) (i + 1) q
     keep_came q l =
