@@ -1,5 +1,5 @@
 -- Placed names: how a plan over them is written, and what it tells.
-use Rattle.std.proofs.Common.{ℕ, zero, suc, ◌+◌, ◌*◌, ◌%◌, ◌^◌, ◌≤◌, ◌<◌, Bool, true, false, cond, true≢false, List, inl, inr, ◌≡◌, refl, sym, ◌∙◌, ap, arith, ltb-true, ltb-false, lt-ltb, eqb, ltb}
+use Rattle.std.proofs.Common.{ℕ, zero, suc, ◌+◌, ◌*◌, ◌%◌, ◌^◌, ◌≤◌, ◌<◌, Bool, true, false, cond, true≢false, List, inl, inr, ◌≡◌, refl, sym, ◌∙◌, ap, arith, ltb-true, ltb-false, eqb, ltb}
 use Rattle.std.proofs.Math.Nat.{div-eq_of_lt, pow-le-pow_right}
 use Rattle.semantics.specs.Proposition.{bit, name}
 use Rattle.semantics.specs.Formula.{Formula, conjunction, scount, at, for_some, equal}
@@ -45,23 +45,7 @@ many_both a b = grind arith
 
 pub many_most : {m : ℕ} (names : Names) → m ≤ 3 → Inside m names → many names ≤ m
 unfolding many
-many_most {m} names h inside =
-    let n0 = one 0 (names 0) (inside 0) in
-    let n1 = one 1 (names 1) (inside 1) in
-    let n2 = one 2 (names 2) (inside 2) in
-    let most = below m h in
-    omega arith
-  where
-    one : (u : ℕ) (p : Bool) → (p ≡ true → u < m) → cond p 1 0 ≤ cond (ltb u m) 1 0
-    one u true h = rw (lt-ltb u m (h refl)) (omega arith)
-    one u false h = omega arith
-
-    below : (m : ℕ) → m ≤ 3 → cond (ltb 0 m) 1 0 + cond (ltb 1 m) 1 0 + cond (ltb 2 m) 1 0 ≤ m
-    below zero h = omega arith
-    below (suc zero) h = omega arith
-    below (suc (suc zero)) h = omega arith
-    below (suc (suc (suc zero))) h = omega arith
-    below (suc (suc (suc (suc m)))) h = absurd (omega arith)
+many_most {m} names h inside = grind (arith, inside 0, inside 1, inside 2)
 
 -- ---- one name, by whether it is of the set
 once₁ : ℕ → Bool → Formula → Formula
