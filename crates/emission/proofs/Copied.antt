@@ -1,5 +1,5 @@
 -- A node copied by the map stands for the node of the sheet.
-use Rattle.std.proofs.Common.{ℕ, suc, ◌+◌, ◌*◌, ◌/◌, ◌≤◌, ◌<◌, Bool, true, false, cond, ◌&&◌, ◌||◌, true≢false, List, inl, inr, ◌≢◌, ◌≡◌, refl, sym, ◌∙◌, ap, subst, arith, leb-true, eqb-true, ne_eqb, ltb-true, leb, ltb, eqb, length, get_or, set, get_or-set_same, get_or-set_other, add-one}
+use Rattle.std.proofs.Common.{ℕ, ◌+◌, ◌*◌, ◌/◌, ◌≤◌, ◌<◌, Bool, true, false, cond, ◌&&◌, ◌||◌, true≢false, List, inl, inr, ◌≢◌, ◌≡◌, refl, sym, ◌∙◌, ap, subst, arith, leb-true, eqb-true, ltb-true, leb, ltb, eqb, length, get_or, set, get_or-set_same, get_or-set_other}
 use Rattle.std.proofs.lemmas.Bool.{eqb-false}
 use Rattle.std.proofs.lemmas.List.{get_or_past}
 use Rattle.semantics.specs.Proposition.{Proposition}
@@ -42,13 +42,7 @@ same_sort_lem =
 -- an op of kind 1 that is no drawing has the same sort in kind 2
 sort_copied : (n : Node) → is_drawing n ≡ false → (sort_of requirement_sorts n.op ≡ 0 → ⊥) → sort_of emitted_sorts n.op ≡ sort_of requirement_sorts n.op
 unfolding same_sort is_drawing
-sort_copied n e some =
-    eqb-true _ _ (left (leb 27 n.op && leb n.op 29) (eqb (sort_of requirement_sorts n.op) 0) _ e (ne_eqb _ 0 some) (same_sort_lem n.op))
-  where
-    left : (a b c : Bool) → a ≡ false → b ≡ false → (a || (b || c)) ≡ true → c ≡ true
-    left true b c p q r = absurd (true≢false p)
-    left false true c p q r = absurd (true≢false q)
-    left false false c p q r = r
+sort_copied n e some = grind (arith, same_sort_lem n.op)
 
 -- ---- the operands of a node that rule 7 takes
 undrawn_at : (ℕ → Node) → ℕ → Formula
@@ -76,7 +70,7 @@ module _ {x : ℕ → Node} {i : ℕ} {y map : List ℕ} (kept : operands_right 
 -- ---- the copy stands for the node
 no_gap : (n : Node) → is_drawing n ≡ false → n.op ≡ 29 → ⊥
 unfolding is_drawing
-no_gap n e f = true≢false (sym (ap (λ (k : ℕ). leb 27 k && leb k 29) f) ∙ e)
+no_gap n e f = grind arith
 
 -- what is no drawing keeps its op
 UndrawnAlike : Node → (ℕ → Proposition) → (ℕ → Formula) → ℕ → Type 0
@@ -170,11 +164,7 @@ mapped_next {y} {r} x i map fits h new j l =
 -- ---- costs
 cost_next : (x : ℕ → Node) (i : ℕ) → copy_costs x i + copy_cost (x i) ≡ copy_costs x (i + 1)
 unfolding copy_costs copy_cost count_below drawing_at
-cost_next x i = rw add-one (go (is_drawing (x i)) (count_below i (drawing_at x)))
-  where
-    go : (b : Bool) (k : ℕ) → i + 11 * k + cond b 12 1 ≡ suc i + 11 * (k + cond b 1 0)
-    go true k = omega arith
-    go false k = omega arith
+cost_next x i = grind arith
 
 pub costs_most : (x : ℕ → Node) (i : ℕ) → copy_costs x i ≤ 12 * i
 unfolding copy_costs

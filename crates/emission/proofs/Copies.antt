@@ -1,10 +1,9 @@
 -- A node copied by a map of its operands, whatever the sorts that its rules went by: it may come next, and is what it was over the nodes that
 -- the map gives.
-use Rattle.std.proofs.Common.{ℕ, ◌+◌, ◌*◌, ◌<◌, Bool, true, false, not, ◌&&◌, ◌||◌, true≢false, List, inl, inr, ◌≡◌, refl, sym, ◌∙◌, ap, ap₂, arith, ne_eqb, eq-eqb, leb, eqb, get_or}
-use Rattle.std.proofs.lemmas.Bool.{false≢true}
+use Rattle.std.proofs.Common.{ℕ, ◌+◌, ◌*◌, ◌<◌, Bool, true, false, not, ◌||◌, List, inl, inr, ◌≡◌, refl, sym, ◌∙◌, ap, ap₂, arith, ne_eqb, leb, eqb, get_or}
 use Rattle.semantics.specs.Proposition.{Proposition, negated, both_of, either_of}
 use Rattle.semantics.specs.Formula.{Formula, point, stretch, whole, unit, chop, conjunction, disjunction, star, scount, sdur, negation, for_some}
-use Rattle.semantics.proofs.Tests.{test, and_left, and_right, and_intro}
+use Rattle.semantics.proofs.Tests.{test, and_intro}
 use Rattle.stored.specs.declared.Node.{Node}
 use Rattle.stored.specs.Bytes.{word}
 use Rattle.stored.specs.Node.{emitted_sorts, sort_of, q_use, a_use, b_use, is_operand, node_at, field_right, fields_right, operand_right}
@@ -36,11 +35,7 @@ module _ {y map : List ℕ} {p : ℕ → Proposition} {f : ℕ → Formula} (wha
 
   given_fits : Good y → v < 65536 → mapped_to map what v < 65536
   unfolding mapped_to
-  given_fits good small =
-      elim (test (is_operand what)) [
-        | inl e ↦ rw e (omega (arith, given_below e, good.few_nodes))
-        | inr e ↦ rw e small
-      ]
+  given_fits good small = grind (arith, given_below, good.few_nodes)
 
   given_right : (s m : ℕ) → field_right s m what v ≡ true → field_right s m what (mapped_to map what v) ≡ true
   unfolding mapped_to field_right
@@ -64,37 +59,26 @@ module _ {y map : List ℕ} {p : ℕ → Proposition} {f : ℕ → Formula} (wha
           | as_proposition u ↦ rw u (of_proposition (h.proposition u))
           | as_formula u ↦ rw u (of_formula (h.formula u))
         ]
-        | inr e ↦ no_operand (eqb what 7) (eqb what 8) _ _ e
+        | inr e ↦ grind arith
       ]
-    where
-      no_operand : (a b c d : Bool) → (a || b) ≡ false → ((not a || c) && (not b || d)) ≡ true
-      no_operand true b c d g = absurd (true≢false g)
-      no_operand false true c d g = absurd (true≢false g)
-      no_operand false false c d g = refl
 
 -- rule 6, opened
 module _ (sorts : List ℕ) (s m : ℕ) (n : Node) (right : fields_right sorts s m n ≡ true) where
   pub some_sort : sort_of sorts n.op ≡ 0 → ⊥
   unfolding fields_right
-  some_sort e = go (eqb (sort_of sorts n.op) 0) (eq-eqb _ 0 e) (and_left (not (eqb (sort_of sorts n.op) 0)) _ right)
-    where
-      go : (b : Bool) → b ≡ true → not b ≡ true → ⊥
-      go true p q = true≢false (sym q)
-      go false p q = false≢true p
+  some_sort e = grind arith
 
   pub q_right : field_right s m (q_use n.op) n.q ≡ true
   unfolding fields_right
-  q_right = and_left (field_right s m (q_use n.op) n.q) _ (and_right (not (eqb (sort_of sorts n.op) 0)) _ right)
-
-  ab_right : (field_right s m (a_use n.op) n.a && (field_right s m (b_use n.op) n.b && (not (eqb n.op 29) || leb n.a n.b))) ≡ true
-  unfolding fields_right
-  ab_right = and_right (field_right s m (q_use n.op) n.q) _ (and_right (not (eqb (sort_of sorts n.op) 0)) _ right)
+  q_right = grind arith
 
   pub a_right : field_right s m (a_use n.op) n.a ≡ true
-  a_right = and_left (field_right s m (a_use n.op) n.a) _ ab_right
+  unfolding fields_right
+  a_right = grind arith
 
   b_right : field_right s m (b_use n.op) n.b ≡ true
-  b_right = and_left (field_right s m (b_use n.op) n.b) _ (and_right (field_right s m (a_use n.op) n.a) _ ab_right)
+  unfolding fields_right
+  b_right = grind arith
 
 -- ---- the copy may come next
 pub may_copy : {y map : List ℕ} {p : ℕ → Proposition} {f : ℕ → Formula} (sorts : List ℕ) (n : Node) → Good y → count y < most_emitted → NodeFits n
