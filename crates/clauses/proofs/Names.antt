@@ -1,11 +1,11 @@
 -- Placed names: how a plan over them is written, and what it tells.
-use Rattle.std.proofs.Common.{ℕ, zero, suc, ◌+◌, ◌*◌, ◌%◌, ◌^◌, ◌≤◌, ◌<◌, Bool, true, false, not, cond, ◌&&◌, ◌||◌, true≢false, List, inl, inr, ◌≡◌, refl, sym, ◌∙◌, ap, arith, ltb-true, ltb-false, lt-ltb, eqb, ltb}
+use Rattle.std.proofs.Common.{ℕ, zero, suc, ◌+◌, ◌*◌, ◌%◌, ◌^◌, ◌≤◌, ◌<◌, Bool, true, false, cond, true≢false, List, inl, inr, ◌≡◌, refl, sym, ◌∙◌, ap, arith, ltb-true, ltb-false, eqb, ltb}
 use Rattle.std.proofs.Math.Nat.{div-eq_of_lt, pow-le-pow_right}
 use Rattle.semantics.specs.Proposition.{bit, name}
 use Rattle.semantics.specs.Formula.{Formula, conjunction, scount, at, for_some, equal}
 use Rattle.semantics.specs.Placement.{Names, union, without}
 use Rattle.semantics.specs.Translation.{once_name, once, placed_name, placed}
-use Rattle.semantics.proofs.Tests.{test, and_left}
+use Rattle.semantics.proofs.Tests.{test}
 use Rattle.stored.specs.Sheet.{header_of}
 use Rattle.plans.specs.Emission.{Ready}
 use Rattle.plans.specs.Plan.{node, op_and, op_some, Put, Wrote, there, marked, conjoined, columned}
@@ -29,15 +29,11 @@ mask_inside m a h u e =
 
 pub union_inside : {m : ℕ} {a b : Names} → Inside m a → Inside m b → Inside m (union a b)
 unfolding union
-union_inside {a = a} {b = b} h k u e = go (a u) (b u) (h u) (k u) e
-  where
-    go : {m : ℕ} (p q : Bool) → (p ≡ true → u < m) → (q ≡ true → u < m) → (p || q) ≡ true → u < m
-    go true q h k e = h refl
-    go false q h k e = k e
+union_inside {a = a} {b = b} h k u e = grind (arith, h u, k u)
 
 pub without_inside : {m : ℕ} {a : Names} (b : Names) → Inside m a → Inside m (without a b)
 unfolding without
-without_inside {a = a} b h u e = h u (and_left (a u) (not (b u)) e)
+without_inside {a = a} b h u e = grind (arith, h u)
 
 unfoldable pub many : Names → ℕ
 many names = cond (names 0) 1 0 + cond (names 1) 1 0 + cond (names 2) 1 0
@@ -45,33 +41,11 @@ many names = cond (names 0) 1 0 + cond (names 1) 1 0 + cond (names 2) 1 0
 -- a set and what another has besides are both
 pub many_both : (a b : Names) → many a + many (without b a) ≡ many (union a b)
 unfolding many without union
-many_both a b = let n0 = one (a 0) (b 0) in let n1 = one (a 1) (b 1) in let n2 = one (a 2) (b 2) in omega arith
-  where
-    one : (p q : Bool) → cond p 1 0 + cond (q && not p) 1 0 ≡ cond (p || q) 1 0
-    one true true = refl
-    one true false = refl
-    one false true = refl
-    one false false = refl
+many_both a b = grind arith
 
 pub many_most : {m : ℕ} (names : Names) → m ≤ 3 → Inside m names → many names ≤ m
 unfolding many
-many_most {m} names h inside =
-    let n0 = one 0 (names 0) (inside 0) in
-    let n1 = one 1 (names 1) (inside 1) in
-    let n2 = one 2 (names 2) (inside 2) in
-    let most = below m h in
-    omega arith
-  where
-    one : (u : ℕ) (p : Bool) → (p ≡ true → u < m) → cond p 1 0 ≤ cond (ltb u m) 1 0
-    one u true h = rw (lt-ltb u m (h refl)) (omega arith)
-    one u false h = omega arith
-
-    below : (m : ℕ) → m ≤ 3 → cond (ltb 0 m) 1 0 + cond (ltb 1 m) 1 0 + cond (ltb 2 m) 1 0 ≤ m
-    below zero h = omega arith
-    below (suc zero) h = omega arith
-    below (suc (suc zero)) h = omega arith
-    below (suc (suc (suc zero))) h = omega arith
-    below (suc (suc (suc (suc m)))) h = absurd (omega arith)
+many_most {m} names h inside = grind (arith, inside 0, inside 1, inside 2)
 
 -- ---- one name, by whether it is of the set
 once₁ : ℕ → Bool → Formula → Formula

@@ -14,7 +14,7 @@ use Rattle.stored.specs.Clause.{stored_at, clause_right, clause_named, type_of, 
 use Rattle.stored.specs.Sheet.{header_of}
 use Rattle.plans.specs.Plan.{node, op_or, Put, Wrote}
 use Rattle.emission.specs.Copying.{copy_costs}
-use Rattle.clauses.specs.declared.placing.Part.{Part}
+use Rattle.clauses.specs.declared.clause.Part.{Part}
 
 -- the clauses of a sheet that rules 8 and 9 take
 pub record ClausesIn (y : List ℕ) (nodes : List ℕ) (n : ℕ) (clauses : List ℕ) (c : ℕ) : Type 0 where

@@ -7,9 +7,16 @@ ghost use Rattle.stored.specs.Clause.{type_of};
 ghost use Rattle.plans.specs.Plan.{Wrote};
 ghost use Rattle.clauses.specs.Clauses.{broken_over};
 
-use crate::placing::{Part, besides, both, put_once, put_placed};
+use crate::placing::{besides, both, put_once, put_placed};
 use emission::shared::{ANYWHERE, EXTENDED};
 use plans::node::{Op, put};
+
+// A part of a clause: a node with a mask of the names that it has.
+#[derive(Clone, Copy)]
+pub struct Part {
+    pub node: usize,
+    pub names: usize,
+}
 
 // The types of clauses by document 01's numbers.
 const INIT: usize = 2;
@@ -25,7 +32,7 @@ const TRIGGERS: usize = 6;
 fn put_pref(out: &mut [u8], d1: Part) -> usize
     ensures { Wrote out.old out.new result (broken_over pref d1 d1 d1) }
 {
-    let held = put_placed(out, d1);
+    let held = put_placed(out, d1.names, d1.node);
     let missed = put(out, Op::Not(held));
     put(out, Op::Chop(missed, ANYWHERE))
 }
@@ -34,24 +41,18 @@ fn put_init(out: &mut [u8], d1: Part, d2: Part) -> usize
     ensures { Wrote out.old out.new result (broken_over init d1 d2 d1) }
 {
     let rest = besides(d1.names, d2.names);
-    let given = put_placed(out, Part { names: rest, ..d1 });
+    let given = put_placed(out, rest, d1.node);
     let somewhere = put(out, Op::Chop(given, ANYWHERE));
     let missed = put(out, Op::Not(somewhere));
     let unanswered = put(out, Op::And(d2.node, missed));
-    let placed = put_placed(
-        out,
-        Part {
-            node: unanswered,
-            ..d2
-        },
-    );
+    let placed = put_placed(out, d2.names, unanswered);
     put(out, Op::Chop(placed, ANYWHERE))
 }
 
 fn put_anti(out: &mut [u8], d1: Part) -> usize
     ensures { Wrote out.old out.new result (broken_over anti d1 d1 d1) }
 {
-    let given = put_placed(out, d1);
+    let given = put_placed(out, d1.names, d1.node);
     let started = put(out, Op::Chop(given, ANYWHERE));
     put(out, Op::Chop(ANYWHERE, started))
 }
@@ -60,16 +61,10 @@ fn put_implies(out: &mut [u8], d1: Part, d2: Part) -> usize
     ensures { Wrote out.old out.new result (broken_over implies d1 d2 d1) }
 {
     let rest = besides(d2.names, d1.names);
-    let given = put_placed(out, Part { names: rest, ..d2 });
+    let given = put_placed(out, rest, d2.node);
     let missed = put(out, Op::Not(given));
     let unanswered = put(out, Op::And(d1.node, missed));
-    let placed = put_placed(
-        out,
-        Part {
-            node: unanswered,
-            ..d1
-        },
-    );
+    let placed = put_placed(out, d1.names, unanswered);
     let started = put(out, Op::Chop(placed, ANYWHERE));
     put(out, Op::Chop(ANYWHERE, started))
 }
@@ -90,14 +85,8 @@ fn put_unanswered(out: &mut [u8], names1: usize, d2: Part, d3: Part) -> usize
     let added = besides(d3.names, names1);
     let rest = besides(d2.names, both(names1, d3.names));
     let shortest = put_shortest(out, d3.node);
-    let ended = put_once(
-        out,
-        Part {
-            node: shortest,
-            names: added,
-        },
-    );
-    let given = put_placed(out, Part { names: rest, ..d2 });
+    let ended = put_once(out, added, shortest);
+    let given = put_placed(out, rest, d2.node);
     let somewhere = put(out, Op::Chop(given, ANYWHERE));
     let missed = put(out, Op::Not(somewhere));
     put(out, Op::And(ended, missed))
@@ -107,36 +96,25 @@ fn put_follows(out: &mut [u8], d1: Part, d2: Part, d3: Part) -> usize
     ensures { Wrote out.old out.new result (broken_over follows d1 d2 d3) }
 {
     let names = both(d1.names, d3.names);
-    let first = put_once(out, d1);
+    let first = put_once(out, d1.names, d1.node);
     let unanswered = put_unanswered(out, d1.names, d2, d3);
     let rest = put(out, Op::Chop(unanswered, ANYWHERE));
     let joined = put(out, Op::Chop(first, rest));
-    let placed = put_placed(
-        out,
-        Part {
-            node: joined,
-            names,
-        },
-    );
+    let placed = put_placed(out, names, joined);
     put(out, Op::Chop(ANYWHERE, placed))
 }
 
+// Beside follows: its two halves begin together, so that two steps differ, and no value.
 fn put_triggers(out: &mut [u8], d1: Part, d2: Part, d3: Part) -> usize
     ensures { Wrote out.old out.new result (broken_over triggers d1 d2 d3) }
 {
     let names = both(d1.names, d3.names);
-    let once = put_once(out, d1);
+    let once = put_once(out, d1.names, d1.node);
     let first = put(out, Op::Chop(once, ANYWHERE));
     let unanswered = put_unanswered(out, d1.names, d2, d3);
     let rest = put(out, Op::Chop(unanswered, ANYWHERE));
     let joined = put(out, Op::And(first, rest));
-    let placed = put_placed(
-        out,
-        Part {
-            node: joined,
-            names,
-        },
-    );
+    let placed = put_placed(out, names, joined);
     put(out, Op::Chop(ANYWHERE, placed))
 }
 

@@ -11,13 +11,6 @@ use plans::node::{Op, put};
 use stored::layout::MOST_NAMES;
 use stored::masks::has_name;
 
-// A node with a mask of names: a part of a clause, or a formula over which names are to be placed.
-#[derive(Clone, Copy)]
-pub struct Part {
-    pub node: usize,
-    pub names: usize,
-}
-
 // Both sets of names.
 pub fn both(a: usize, b: usize) -> usize
     ensures { bit result ≡ union (bit a) (bit b) }
@@ -32,13 +25,14 @@ pub fn besides(a: usize, b: usize) -> usize
     a & !b
 }
 
-// Each of the names has one mark, which is in a column of its own where `own` says so.
-fn put_names(out: &mut [u8], part: Part, own: bool) -> usize
-    ensures { Wrote out.old out.new result (names_over own (bit part.names) (at part.node)) }
+// Each of the names has one mark, which is in a column of its own where `own` says so. A closure for that step would be no plainer: it
+// needs a contract over plans.
+fn put_names(out: &mut [u8], names: usize, f: usize, own: bool) -> usize
+    ensures { Wrote out.old out.new result (names_over own (bit names) (at f)) }
 {
-    let mut node = part.node;
+    let mut node = f;
     for u in (0..MOST_NAMES).rev() {
-        if has_name(part.names, u) {
+        if has_name(names, u) {
             node = put(out, Op::And(4 + 2 * u, node));
             if own {
                 node = put(out, Op::Column(u, node));
@@ -49,15 +43,15 @@ fn put_names(out: &mut [u8], part: Part, own: bool) -> usize
 }
 
 // Each of the names has one mark.
-pub fn put_once(out: &mut [u8], part: Part) -> usize
-    ensures { Wrote out.old out.new result (once (bit part.names) (at part.node)) }
+pub fn put_once(out: &mut [u8], names: usize, f: usize) -> usize
+    ensures { Wrote out.old out.new result (once (bit names) (at f)) }
 {
-    put_names(out, part, false)
+    put_names(out, names, f, false)
 }
 
 // Each of the names has one mark, in a column of its own.
-pub fn put_placed(out: &mut [u8], part: Part) -> usize
-    ensures { Wrote out.old out.new result (placed (bit part.names) (at part.node)) }
+pub fn put_placed(out: &mut [u8], names: usize, f: usize) -> usize
+    ensures { Wrote out.old out.new result (placed (bit names) (at f)) }
 {
-    put_names(out, part, true)
+    put_names(out, names, f, true)
 }

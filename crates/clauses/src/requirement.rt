@@ -8,8 +8,7 @@ ghost use Rattle.plans.specs.Plan.{Wrote};
 ghost use Rattle.emission.specs.Copying.{NodesIn};
 ghost use Rattle.clauses.specs.Clauses.{ClausesIn, side_count, broken_in, JoinedBy, clauses_at, requirement_cost};
 
-use crate::clause;
-use crate::placing::Part;
+use crate::clause::{Part, put_typed};
 use emission::{copy, shared};
 use plans::node::{Op, put};
 use stored::{StoredClause, clauses, masks};
@@ -34,7 +33,7 @@ fn put_clause(out: &mut [u8], map: &[usize], d: StoredClause) -> usize
     let d1 = copied_part(map, d.root1, d.mask1);
     let d2 = copied_part(map, d.root2, d.mask2);
     let d3 = copied_part(map, d.root3, d.mask3);
-    clause::put_typed(out, d.clause_type, d1, d2, d3)
+    put_typed(out, d.clause_type, d1, d2, d3)
 }
 
 // The clause joined to the earlier ones on the side of its role; advice has no side and is passed over.
@@ -50,7 +49,8 @@ fn join_clause(out: &mut [u8], map: &[usize], d: StoredClause, sides: &mut [usiz
     sides[role] = put(out, Op::Or(sides[role], broken));
 }
 
-// The node and clause parts of a sheet with n nodes and c clauses; the root is the last node.
+// The node and clause parts of a sheet with n nodes and c clauses; the root is the last node. The counts go beside the parts, which may
+// be longer (`NodesIn`, `ClausesIn`).
 pub fn put_requirement(out: &mut [u8], nodes: &[u8], n: usize, clauses: &[u8], c: usize) -> usize
     requires { (Ready out.old) × (count out.old ≤ 9) × (NodesIn out.old nodes.now n) × (ClausesIn out.old nodes.now n clauses.now c) }
     ensures { (Emits out.old out.new result (requirement_cost nodes.now n c (header_of out.old).names) (translation (clauses_at nodes.now clauses.now c))) × (count out.new ≡ result + 1) }

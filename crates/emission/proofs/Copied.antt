@@ -1,6 +1,5 @@
 -- A node copied by the map stands for the node of the sheet.
-use Rattle.std.proofs.Common.{ℕ, suc, ◌+◌, ◌*◌, ◌/◌, ◌≤◌, ◌<◌, Bool, true, false, not, cond, ◌&&◌, ◌||◌, true≢false, List, inl, inr, ◌≢◌, ◌≡◌, refl, sym, ◌∙◌, ap, subst, arith, leb-true, eqb-true, ltb-true, leb, ltb, eqb, length, get_or, set, get_or-set_same, get_or-set_other, add-one, Option, Some, None}
-use borrow.Author.Tests.{eqb-false}
+use Rattle.std.proofs.Common.{ℕ, ◌+◌, ◌*◌, ◌/◌, ◌≤◌, ◌<◌, Bool, true, false, not, cond, ◌&&◌, ◌||◌, true≢false, List, inl, inr, ◌≢◌, ◌≡◌, refl, sym, ◌∙◌, ap, subst, arith, eqb-true, ltb-true, leb, ltb, eqb, length, set, get_or-set_same, get_or-set_other, Option, Some, None}
 use Rattle.std.proofs.lemmas.Bool.{eqb-false}
 use Rattle.std.proofs.lemmas.List.{get_or_past}
 use Rattle.semantics.specs.Proposition.{Proposition}
@@ -84,7 +83,7 @@ module _ {x : ℕ → Node} {i : ℕ} {y map : List ℕ} (kept : operands_right 
 -- ---- the copy stands for the node
 no_gap : (n : Node) → is_drawing n ≡ false → n.op ≡ 29 → ⊥
 unfolding is_drawing
-no_gap n e f = true≢false (sym (ap (λ (k : ℕ). leb 27 k && leb k 29) f) ∙ e)
+no_gap n e f = grind arith
 
 -- what is no drawing keeps its op
 UndrawnAlike : Node → (ℕ → Proposition) → (ℕ → Formula) → ℕ → Type 0
@@ -121,16 +120,11 @@ copied_stands {x} {i} {y} {z} {map} {r} kept some plain a b new =
 drawing_cases : (P : ℕ → Type 0) → P 27 → P 28 → P 29 → (n : Node) → is_drawing n ≡ true → P n.op
 unfolding is_drawing
 drawing_cases P p q r n e =
-    let low = leb-true 27 n.op (and_left (leb 27 n.op) _ e) in
-    let high = leb-true n.op 29 (and_right (leb 27 n.op) _ e) in
     elim (test (eqb n.op 27)) [
-      | inl f ↦ subst P (sym (eqb-true _ 27 f)) p
+      | inl f ↦ rw (eqb-true _ 27 f) p
       | inr f ↦ elim (test (eqb n.op 28)) [
-        | inl g ↦ subst P (sym (eqb-true _ 28 g)) q
-        | inr g ↦ let not27 = eqb-false n.op 27 f in
-            let not28 = eqb-false n.op 28 g in
-            let is : 29 ≡ n.op = omega arith in
-            subst P is r
+        | inl g ↦ rw (eqb-true _ 28 g) q
+        | inr g ↦ let is : n.op ≡ 29 = grind arith in rw is r
       ]
     ]
 
@@ -167,22 +161,16 @@ mapped_kept x i map s h j l =
 mapped_next : {y : List ℕ} {r : ℕ} (x : ℕ → Node) (i : ℕ) (map : List ℕ) → i < length map → Mapped x i y map
     → Stands x i y r → Mapped x (i + 1) y (set map i r)
 unfolding entry_of
-mapped_next {y} {r} x i map fits h new j l =
+mapped_next {r = r} x i map fits h new j l =
     elim (test (eqb j i)) [
-      | inl e ↦ let is = eqb-true j i e in
-          subst (λ (o : ℕ). Stands x o y (get_or (set map i r) o 0)) (sym is) (subst (Stands x i y) (sym (get_or-set_same map i r 0 fits)) new)
-      | inr e ↦ let other = eqb-false j i e in
-          subst (Stands x j y) (sym (get_or-set_other map i j r 0 other)) (h j (omega arith))
+      | inl e ↦ rw (eqb-true j i e, get_or-set_same map i r 0 fits) new
+      | inr e ↦ rw (get_or-set_other map i j r 0 (eqb-false j i e)) (h j (grind arith))
     ]
 
 -- ---- costs
 cost_next : (x : ℕ → Node) (i : ℕ) → copy_costs x i + copy_cost (x i) ≡ copy_costs x (i + 1)
 unfolding copy_costs copy_cost count_below drawing_at
-cost_next x i = rw add-one (go (is_drawing (x i)) (count_below i (drawing_at x)))
-  where
-    go : (b : Bool) (k : ℕ) → i + 11 * k + cond b 12 1 ≡ suc i + 11 * (k + cond b 1 0)
-    go true k = omega arith
-    go false k = omega arith
+cost_next x i = grind arith
 
 pub costs_most : (x : ℕ → Node) (i : ℕ) → copy_costs x i ≤ 12 * i
 unfolding copy_costs

@@ -52,11 +52,7 @@ module _ {y map : List ℕ} {p : ℕ → Proposition} {f : ℕ → Formula} (wha
 
   given_fits : Good y → v < 65536 → mapped_to map what v < 65536
   unfolding mapped_to
-  given_fits good small =
-      elim (test (is_operand what)) [
-        | inl e ↦ rw e (omega (arith, given_below e, good.few_nodes))
-        | inr e ↦ rw e small
-      ]
+  given_fits good small = grind (arith, given_below, good.few_nodes)
 
   given_right : (s m : ℕ) → field_right s m what v ≡ true → field_right s m what (mapped_to map what v) ≡ true
   unfolding mapped_to field_right

@@ -1,7 +1,8 @@
 -- Keeping the marked nodes in their order: each becomes what it was, operands stay operands, and nothing else is written.
-use Rattle.std.proofs.Common.{ℕ, zero, suc, ◌+◌, ◌≤◌, ◌<◌, Bool, true, false, List, inl, inr, ◌≡◌, refl, sym, ◌∙◌, ap, subst, true≢false, arith, eqb-true, eq-eqb, eqb, length, set, get_or, get_or-set_same, get_or-set_other}
+use Rattle.std.proofs.Common.{ℕ, zero, suc, ◌+◌, ◌≤◌, ◌<◌, Bool, true, false, List, inl, inr, ◌≡◌, refl, sym, ◌∙◌, ap, subst, arith, eqb-true, eqb, length, set, get_or}
 use Rattle.std.proofs.lemmas.Bool.{eqb-false}
-use Rattle.semantics.proofs.Tests.{test, and_left, and_right, and_intro, or_elim, or_left, or_right}
+use Rattle.std.proofs.lemmas.Grind.{common_steps}
+use Rattle.semantics.proofs.Tests.{test}
 use Rattle.stored.specs.declared.Node.{Node}
 use Rattle.stored.specs.declared.nodes.Use.{Use}
 use Rattle.stored.specs.Node.{emitted_sorts, sort_of, is_operand, a_use, b_use, fields_right, operands_right}
@@ -23,17 +24,11 @@ use Rattle.pruning.specs.Pruned.{Live, MarkedFrom, Same, PrunedTo, Drafted}
 -- ---- the copy of a node has the copies of its operands
 field_copied : (map : List ℕ) (what : Use) (v k : ℕ) → is_node what v k ≡ true → is_node what (mapped_to map what v) (entry_of map k) ≡ true
 unfolding is_node mapped_to
-field_copied map what v k e =
-    let is = and_left (is_operand what) _ e in
-    rw is (eq-eqb (entry_of map v) (entry_of map k) (ap (entry_of map) (eqb-true v k (and_right (is_operand what) _ e))))
+field_copied map what v k e = grind arith
 
 operand_copied : (map : List ℕ) (n : Node) (k : ℕ) → has_operand n k ≡ true → has_operand (copied_node map n) (entry_of map k) ≡ true
 unfolding has_operand copied_node
-operand_copied map n k e =
-    elim (or_elim (is_node (a_use n.op) n.a k) (is_node (b_use n.op) n.b k) e) [
-      | inl h ↦ or_left _ _ (field_copied map (a_use n.op) n.a k h)
-      | inr h ↦ or_right (is_node (a_use n.op) (mapped_to map (a_use n.op) n.a) (entry_of map k)) _ (field_copied map (b_use n.op) n.b k h)
-    ]
+operand_copied map n k e = grind (arith, field_copied)
 
 -- ---- the first i nodes, of which the marked ones are kept
 -- node r came of a marked one
@@ -64,11 +59,11 @@ none_kept e =
 module _ (map : List ℕ) (i r : ℕ) where
   entry_old : (k : ℕ) → k < i → entry_of (set map i r) k ≡ entry_of map k
   unfolding entry_of
-  entry_old k l = get_or-set_other map i k r 0 (λ e. omega arith)
+  entry_old k l = grind (arith, common_steps)
 
   entry_new : i < length map → entry_of (set map i r) i ≡ r
   unfolding entry_of
-  entry_new l = get_or-set_same map i r 0 l
+  entry_new l = grind (arith, common_steps)
 
 same_kept : {x : ℕ → Node} {i k r : ℕ} {y z : List ℕ} → Step y z k → Same x i y r → Same x i z r
 same_kept s h = record { proposition = λ e. proposition_kept s (h.proposition e); formula = λ e. has_kept s (h.formula e) }
@@ -89,11 +84,7 @@ module _ {x : ℕ → Node} {marks : List Bool} {y map : List ℕ} {i : ℕ} (ri
       }
     where
       earlier : (k : ℕ) → k < i + 1 → Live marks k → k < i
-      earlier k l live =
-          elim (test (eqb k i)) [
-            | inl e ↦ absurd (true≢false (sym live ∙ ap (λ (o : ℕ). get_or marks o false) (eqb-true k i e) ∙ dead))
-            | inr e ↦ let other = eqb-false k i e in omega arith
-          ]
+      earlier k l live = grind arith
 
   module _ {z : List ℕ} {r : ℕ} (fits : i < length map) (live-i : Live marks i) (new : Added y z r (copied_node map (x i))) (is : Same x i z r) where
     entry_i : entry_of (set map i r) i ≡ r
@@ -102,34 +93,17 @@ module _ {x : ℕ → Node} {marks : List Bool} {y map : List ℕ} {i : ℕ} (ri
     keep_same : (k : ℕ) → k < i + 1 → Live marks k → Same x k z (entry_of (set map i r) k)
     keep_same k l live =
         elim (test (eqb k i)) [
-          | inl e ↦ subst (λ (o : ℕ). Same x o z (entry_of (set map i r) o)) (sym (eqb-true k i e)) (subst (Same x i z) (sym entry_i) is)
-          | inr e ↦ let other = eqb-false k i e in
-              let less : k < i = omega arith in
-              subst (Same x k z) (sym (entry_old map i r k less)) (same_kept new.step (h.same k less live))
+          | inl e ↦ rw (eqb-true k i e, entry_i) is
+          | inr e ↦ let less : k < i = grind arith in rw (entry_old map i r k less) (same_kept new.step (h.same k less live))
         ]
 
     keep_placed : (k : ℕ) → k < i + 1 → Live marks k → entry_of (set map i r) k < count z
-    keep_placed k l live =
-        elim (test (eqb k i)) [
-          | inl e ↦ let at = ap (entry_of (set map i r)) (eqb-true k i e) ∙ entry_i in omega (arith, new.exact, new.place)
-          | inr e ↦ let other = eqb-false k i e in
-              let less : k < i = omega arith in
-              let at = entry_old map i r k less in
-              omega (arith, h.placed k less live, new.exact)
-        ]
+    keep_placed k l live = grind (arith, entry_i, entry_old map i r k, h.placed k, new.exact, new.place)
 
     keep_linked : (j k : ℕ) → j < i + 1 → Live marks j → has_operand (x j) k ≡ true → has_operand (node_in z (entry_of (set map i r) j)) (entry_of (set map i r) k) ≡ true
     keep_linked j k l live e =
         let below = operand_less emitted_sorts x j k (right j (omega arith)) e in
-        let at-k : entry_of (set map i r) k ≡ entry_of map k = entry_old map i r k (omega arith) in
-        elim (test (eqb j i)) [
-          | inl f ↦ let at_j : entry_of (set map i r) j ≡ r = ap (entry_of (set map i r)) (eqb-true j i f) ∙ entry_i in
-              rw (at_j, at-k) (rw new.node (operand_copied map (x i) k (subst (λ (o : ℕ). has_operand (x o) k ≡ true) (eqb-true j i f) e)))
-          | inr f ↦ let other = eqb-false j i f in
-              let less : j < i = omega arith in
-              let at_j = entry_old map i r j less in
-              rw (at_j, at-k) (rw (new.step.same (entry_of map j) (h.placed j less live)) (h.linked j k less live e))
-        ]
+        grind (arith, entry_i, entry_old map i r, new.node, new.step.same, operand_copied map (x i) k, h.placed j, h.linked j k)
 
     keep_came : (q : ℕ) → q < count z → Came marks (set map i r) (i + 1) q
     keep_came q l =
@@ -148,10 +122,7 @@ module _ {x : ℕ → Node} {marks : List Bool} {y map : List ℕ} {i : ℕ} (ri
           placed = keep_placed;
           linked = keep_linked;
           came = keep_came;
-          last = λ k e live.
-              let is-i : k ≡ i = omega arith in
-              let at = ap (entry_of (set map i r)) is-i ∙ entry_i in
-              omega (arith, new.exact, new.place);
+          last = λ k e live. grind (arith, entry_i, new.exact, new.place);
         }
 
 -- ---- a marked node's operands are marked, so that the map gives them
@@ -159,11 +130,11 @@ module _ {x : ℕ → Node} {marks : List Bool} {y map : List ℕ} {root i : ℕ
     (most : i ≤ root) (live : Live marks i) (h : Kept x marks i y map) where
   live_a : is_operand (a_use (x i).op) ≡ true → Live marks (x i).a
   unfolding has_operand is_node
-  live_a e = m.closed i (x i).a (omega arith) most live (or_left _ _ (and_intro _ _ e (eq-eqb (x i).a (x i).a refl)))
+  live_a e = grind (arith, m.closed i (x i).a)
 
   live_b : is_operand (b_use (x i).op) ≡ true → Live marks (x i).b
   unfolding has_operand is_node
-  live_b e = m.closed i (x i).b (omega arith) most live (or_right (is_node (a_use (x i).op) (x i).a (x i).b) _ (and_intro _ _ e (eq-eqb (x i).b (x i).b refl)))
+  live_b e = grind (arith, m.closed i (x i).b)
 
   given_a : Given y map (proposition_at x) (formula_at x) (a_use (x i).op) (x i).a
   unfolding is_operand

@@ -6,4 +6,4 @@ use Rattle.clauses.proofs.Names.{names_from}
 use Rattle.clauses.proofs.placing.put_names.Given as goal
 
 abbrev pub invariant-loop-u : goal.invariant-loop-u
-invariant-loop-u l = Wrote l.initial.out l.out l.node (names_from l.own l.u (bit l.part.names) (at l.part.node))
+invariant-loop-u l = Wrote l.initial.out l.out l.node (names_from l.own l.u (bit l.names) (at l.f))
