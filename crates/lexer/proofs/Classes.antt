@@ -13,7 +13,7 @@ use Rattle.lexer.specs.declared.spellings.Spelling.{Spelling as Row}
 use Rattle.lexer.specs.Lexed.{meant}
 use Rattle.lexer.specs.Rows.{is_of, starts_as, those, first_row, spelt_by, has_number, all_numbered, Found}
 use Rattle.lexer.proofs.Digits.{digit_high}
-use Rattle.lexer.proofs.Rows.{first_row_found}
+use Rattle.lexer.proofs.Rows.{first_row_long}
 
 -- ---- what a class says of its byte
 -- where a test is false, its class is not given
@@ -125,7 +125,7 @@ module _ (text : List ℕ) (class : Class) (long : 0 < length text) (e : mark_of
       → all_numbered rows ≡ true → Found spellings text r
   unfolding is_of
   found_of c rows r h first all numbered =
-      found_among (is_of (mark_of c)) text r long (eq-eqb (class_of (get_or text 0 0)) (mark_of c) (sym e ∙ ap mark_of h)) (rw (first, ← all) (first_row_found rows text numbered))
+      found_among (is_of (mark_of c)) text r long (eq-eqb (class_of (get_or text 0 0)) (mark_of c) (sym e ∙ ap mark_of h)) (rw (first, ← all) (first_row_long rows text long numbered))
 
   pub none_of : begins_none (mark_of class) ≡ true → Found spellings text None
   unfolding spelling_of

@@ -79,9 +79,12 @@ module _ (text : List ℕ) (at : ℕ) (h : at < length text) where
       first_fits
 
   pub row_read : (r : Row) → Found spellings (drop at text) (Some r) → is_blank (get_or text at 0) ≡ false → is_digit (get_or text at 0) ≡ false
-      → Next text at (record { token = r.1; at = at + length r.0.now })
+      → Next text at (record { token = r.2; at = at + 1 + length r.1.now })
   unfolding first
-  row_read r found e d = rw found.bytes (first_read r.1 e d found.token)
+  row_read r found e d =
+      let read = rw (← found.bytes) at (first_read r.2 e d found.token) in
+      let end : at + 1 + length r.1.now ≡ at + suc (length r.1.now) = omega arith in
+      rw end read
 
   pub outside_read : Found spellings (drop at text) None → is_blank (get_or text at 0) ≡ false → is_digit (get_or text at 0) ≡ false
       → Next text at (record { token = Outside; at = at + 1 })

@@ -23,9 +23,14 @@ unfoldable pub those : (ℕ → Bool) → List Spelling → List Spelling
 those p [] = []
 those p (x ∷ more) = cond (starts_as p x.bytes) (x ∷ those p more) (those p more)
 
+-- the first row with this first byte whose other bytes the text begins with
+unfoldable pub row_with : List Row → ℕ → List ℕ → Option Row
+row_with rows b text = find (λ x. eqb x.0 b && starts_with eqb text x.1.now) rows
+
 -- the first row whose word or sign the text begins with
 unfoldable pub first_row : List Row → List ℕ → Option Row
-first_row rows text = find (λ x. starts_with eqb text x.0.now) rows
+first_row rows [] = None
+first_row rows (b ∷ text) = row_with rows b text
 
 -- the row that is lent
 abbrev pub lent : Option (Bor Row) → Option Row
@@ -34,7 +39,7 @@ lent r = option_map (λ x. x.now) r
 -- the rows as spellings of the grammar
 unfoldable pub spelt_by : List Row → List Spelling
 spelt_by [] = []
-spelt_by (x ∷ rows) = spelt x.0.now (meant x.1) ∷ spelt_by rows
+spelt_by (x ∷ rows) = spelt (x.0 ∷ x.1.now) (meant x.2) ∷ spelt_by rows
 
 -- each row has the token of a word, a sign, a signal or a name
 unfoldable pub has_number : Lexeme → Bool
@@ -47,12 +52,12 @@ has_number End = false
 
 unfoldable pub all_numbered : List Row → Bool
 all_numbered [] = true
-all_numbered (x ∷ rows) = has_number x.1 && all_numbered rows
+all_numbered (x ∷ rows) = has_number x.2 && all_numbered rows
 
 -- a row has the bytes and the token of a spelling, and no row says that a byte is outside
 pub record Spells (r : Row) (x : Spelling) : Type 0 where
-  pub bytes : r.0.now ≡ x.bytes
-  pub token : Means r.1 x.token
+  pub bytes : r.0 ∷ r.1.now ≡ x.bytes
+  pub token : Means r.2 x.token
 
 abbrev pub IsRow : Option Row → Spelling → Type 0
 IsRow None x = spelt (0 ∷ []) outside ≡ x

@@ -3,90 +3,99 @@ ghost use Rattle.std.specs.Prelude.{false, ◌≡◌, ◌<◌, length, get_or};
 ghost use Rattle.grammar.specs.Class.{class_of};
 ghost use Rattle.classes.specs.Mark.{mark_of};
 ghost use Rattle.grammar.specs.Token.{is_blank, is_digit, spellings};
-ghost use Rattle.lexer.specs.Rows.{lent, first_row, Found};
+ghost use Rattle.lexer.specs.Rows.{lent, row_with, first_row, Found};
 ghost use Rattle.lexer.specs.Lexed.{Next};
 
 use crate::{Lexed, Token};
 use classes::Class;
 
-// A word or sign, and its token.
+// A word or sign by its first byte, by which most are passed over, and the bytes after it; and its token.
 #[derive(Clone, Copy, Debug)]
-pub struct Spelling(pub &'static [u8], pub Token);
+pub struct Spelling(pub u8, pub &'static [u8], pub Token);
 
 // What begins with a letter. A longer word or sign stands before those that it begins with.
 static WORDS: [Spelling; 35] = [
-    Spelling(b"assume", Token::Plain(1)),
-    Spelling(b"require", Token::Plain(2)),
-    Spelling(b"pref", Token::Plain(3)),
-    Spelling(b"init", Token::Plain(4)),
-    Spelling(b"anti", Token::Plain(5)),
-    Spelling(b"implies", Token::Plain(6)),
-    Spelling(b"follows", Token::Plain(7)),
-    Spelling(b"triggers", Token::Plain(8)),
-    Spelling(b"true", Token::Plain(9)),
-    Spelling(b"false", Token::Plain(10)),
-    Spelling(b"slen", Token::Plain(11)),
-    Spelling(b"scount", Token::Plain(12)),
-    Spelling(b"sdur", Token::Plain(13)),
-    Spelling(b"draw", Token::Plain(14)),
-    Spelling(b"at", Token::Plain(15)),
-    Spelling(b"gap", Token::Plain(16)),
-    Spelling(b"s10", Token::Signal(10)),
-    Spelling(b"s11", Token::Signal(11)),
-    Spelling(b"s12", Token::Signal(12)),
-    Spelling(b"s13", Token::Signal(13)),
-    Spelling(b"s14", Token::Signal(14)),
-    Spelling(b"s15", Token::Signal(15)),
-    Spelling(b"s0", Token::Signal(0)),
-    Spelling(b"s1", Token::Signal(1)),
-    Spelling(b"s2", Token::Signal(2)),
-    Spelling(b"s3", Token::Signal(3)),
-    Spelling(b"s4", Token::Signal(4)),
-    Spelling(b"s5", Token::Signal(5)),
-    Spelling(b"s6", Token::Signal(6)),
-    Spelling(b"s7", Token::Signal(7)),
-    Spelling(b"s8", Token::Signal(8)),
-    Spelling(b"s9", Token::Signal(9)),
-    Spelling(b"u0", Token::Name(0)),
-    Spelling(b"u1", Token::Name(1)),
-    Spelling(b"u2", Token::Name(2)),
+    Spelling(b'a', b"ssume", Token::Plain(1)),
+    Spelling(b'r', b"equire", Token::Plain(2)),
+    Spelling(b'p', b"ref", Token::Plain(3)),
+    Spelling(b'i', b"nit", Token::Plain(4)),
+    Spelling(b'a', b"nti", Token::Plain(5)),
+    Spelling(b'i', b"mplies", Token::Plain(6)),
+    Spelling(b'f', b"ollows", Token::Plain(7)),
+    Spelling(b't', b"riggers", Token::Plain(8)),
+    Spelling(b't', b"rue", Token::Plain(9)),
+    Spelling(b'f', b"alse", Token::Plain(10)),
+    Spelling(b's', b"len", Token::Plain(11)),
+    Spelling(b's', b"count", Token::Plain(12)),
+    Spelling(b's', b"dur", Token::Plain(13)),
+    Spelling(b'd', b"raw", Token::Plain(14)),
+    Spelling(b'a', b"t", Token::Plain(15)),
+    Spelling(b'g', b"ap", Token::Plain(16)),
+    Spelling(b's', b"10", Token::Signal(10)),
+    Spelling(b's', b"11", Token::Signal(11)),
+    Spelling(b's', b"12", Token::Signal(12)),
+    Spelling(b's', b"13", Token::Signal(13)),
+    Spelling(b's', b"14", Token::Signal(14)),
+    Spelling(b's', b"15", Token::Signal(15)),
+    Spelling(b's', b"0", Token::Signal(0)),
+    Spelling(b's', b"1", Token::Signal(1)),
+    Spelling(b's', b"2", Token::Signal(2)),
+    Spelling(b's', b"3", Token::Signal(3)),
+    Spelling(b's', b"4", Token::Signal(4)),
+    Spelling(b's', b"5", Token::Signal(5)),
+    Spelling(b's', b"6", Token::Signal(6)),
+    Spelling(b's', b"7", Token::Signal(7)),
+    Spelling(b's', b"8", Token::Signal(8)),
+    Spelling(b's', b"9", Token::Signal(9)),
+    Spelling(b'u', b"0", Token::Name(0)),
+    Spelling(b'u', b"1", Token::Name(1)),
+    Spelling(b'u', b"2", Token::Name(2)),
 ];
 
 // What begins with a bracket.
 static BRACKETS: [Spelling; 12] = [
-    Spelling(b"[[", Token::Plain(26)),
-    Spelling(b"]]", Token::Plain(27)),
-    Spelling(b"{{", Token::Plain(28)),
-    Spelling(b"}}", Token::Plain(29)),
-    Spelling(b"<=", Token::Plain(18)),
-    Spelling(b">=", Token::Plain(20)),
-    Spelling(b"<", Token::Plain(17)),
-    Spelling(b">", Token::Plain(21)),
-    Spelling(b"(", Token::Plain(22)),
-    Spelling(b")", Token::Plain(23)),
-    Spelling(b"[", Token::Plain(24)),
-    Spelling(b"]", Token::Plain(25)),
+    Spelling(b'[', b"[", Token::Plain(26)),
+    Spelling(b']', b"]", Token::Plain(27)),
+    Spelling(b'{', b"{", Token::Plain(28)),
+    Spelling(b'}', b"}", Token::Plain(29)),
+    Spelling(b'<', b"=", Token::Plain(18)),
+    Spelling(b'>', b"=", Token::Plain(20)),
+    Spelling(b'<', b"", Token::Plain(17)),
+    Spelling(b'>', b"", Token::Plain(21)),
+    Spelling(b'(', b"", Token::Plain(22)),
+    Spelling(b')', b"", Token::Plain(23)),
+    Spelling(b'[', b"", Token::Plain(24)),
+    Spelling(b']', b"", Token::Plain(25)),
 ];
 
 static JOINERS: [Spelling; 8] = [
-    Spelling(b"=", Token::Plain(19)),
-    Spelling(b"|", Token::Plain(30)),
-    Spelling(b"&", Token::Plain(31)),
-    Spelling(b"^", Token::Plain(32)),
-    Spelling(b"!", Token::Plain(33)),
-    Spelling(b"*", Token::Plain(34)),
-    Spelling(b":", Token::Plain(35)),
-    Spelling(b",", Token::Plain(36)),
+    Spelling(b'=', b"", Token::Plain(19)),
+    Spelling(b'|', b"", Token::Plain(30)),
+    Spelling(b'&', b"", Token::Plain(31)),
+    Spelling(b'^', b"", Token::Plain(32)),
+    Spelling(b'!', b"", Token::Plain(33)),
+    Spelling(b'*', b"", Token::Plain(34)),
+    Spelling(b':', b"", Token::Plain(35)),
+    Spelling(b',', b"", Token::Plain(36)),
 ];
 
-static LINE_ENDS: [Spelling; 1] = [Spelling(b"\n", Token::Plain(0))];
+static LINE_ENDS: [Spelling; 1] = [Spelling(b'\n', b"", Token::Plain(0))];
+
+// The first row with this first byte whose other bytes `rest` begins with.
+#[tactic(auto, unfolding(crate::specs::Rows::row_with))]
+fn row_with(rows: &'static [Spelling], first: u8, rest: &[u8]) -> Option<&'static Spelling>
+    ensures { lent result ≡ row_with rows.now first rest.now }
+{
+    rows.iter()
+        .find(|row| row.0 == first && rest.starts_with(row.1))
+}
 
 // The first row whose word or sign the text begins with.
-#[tactic(auto, unfolding(crate::specs::Rows::first_row))]
 fn find(rows: &'static [Spelling], text: &[u8]) -> Option<&'static Spelling>
     ensures { lent result ≡ first_row rows.now text.now }
 {
-    rows.iter().find(|row| text.starts_with(row.0))
+    let (first, rest) = text.split_first()?;
+    row_with(rows, *first, rest)
 }
 
 // The word or sign that the text begins with, whose first byte has this class: the class decides which rows are looked through.
@@ -109,9 +118,9 @@ pub fn spelling_at(text: &[u8], at: usize, class: Class) -> Lexed
     ensures { Next text.now at result }
 {
     match word_or_sign(&text[at..], class) {
-        Some(Spelling(word, token)) => Lexed {
+        Some(Spelling(_, rest, token)) => Lexed {
             token: *token,
-            at: at + word.len(),
+            at: at + 1 + rest.len(),
         },
         None => Lexed {
             token: Token::Outside,
