@@ -1,4 +1,5 @@
-// The words and signs of a text, by the numbers that their tokens have.
+// The words and signs of a text, by the numbers that their tokens have: `grammar/specs/Token.antt`, in whose terms the reader promises, has
+// them by number.
 pub const LINE_END: usize = 0;
 
 // The roles 0 and 1.

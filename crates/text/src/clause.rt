@@ -16,7 +16,8 @@ use typed::draft;
 // The bytes of the most clauses.
 pub const CLAUSE_BYTES: usize = layout::CLAUSE_SIZE * layout::MOST_CLAUSES;
 
-// The bytes of the clauses of what was read, and how many there are, also where they are too many for the bytes.
+// The bytes of the clauses of what was read, and how many there are, also where they are too many for the bytes. Of nodes there are `Nodes`:
+// a type of both would have neither's `put`, which is all that they do.
 #[derive(Drop)]
 pub struct Clauses {
     pub bytes: [u8; CLAUSE_BYTES],
