@@ -21,6 +21,9 @@ use stored::refusal::Refusal;
 use text::read::read_text;
 use translator::translate;
 
+// How an answer is packed belongs to the interface for C (specs/Packed.antt), so it is said by functions here: a `From` would make these
+// numbers the numbers of `checker`'s types.
+
 // The numbers of a finding are below it.
 const FINDINGS: u64 = 4294967296;
 

@@ -12,19 +12,6 @@ use Rattle.exports.proofs.packed_finding.Goals as goal
 packed_as : (r : ℕ) (f : Finding) → SmallFinding f → r ≡ packed_finding f → (r ≡ packed_finding f) × (r < findings)
 packed_as r f h e = (e, subst (λ (x : ℕ). x < findings) (sym e) (finding_small f h))
 
-pub overflow_mul-result : goal.overflow_mul-result
-overflow_mul-result c =
-    let small : c.in-Excused.clause < 8 = subst (λ (x : Finding). SmallFinding x) c.in-Excused.is c.requires in
-    search rules
-
-pub overflow_add-result : goal.overflow_add-result
-overflow_add-result c =
-    let small : c.in-Excused.clause < 8 = subst (λ (x : Finding). SmallFinding x) c.in-Excused.is c.requires in
-    search rules
-
-pub packed_place-requires : goal.packed_place-requires
-packed_place-requires c = subst (λ (x : Finding). SmallFinding x) c.in-Broken.is c.requires
-
 pub overflow_mul-result-in-Broken : goal.overflow_mul-result-in-Broken
 overflow_mul-result-in-Broken c =
     let small : SmallPlace c.in-Broken.place = subst (λ (x : Finding). SmallFinding x) c.in-Broken.is c.requires in

@@ -8,16 +8,6 @@ use Rattle.stored.specs.declared.refusal.Refusal.{Refusal}
 use Rattle.exports.specs.Packed.{packed_writing, SmallWriting}
 use Rattle.exports.proofs.packed_writing.Goals as goal
 
-pub overflow_mul-result : goal.overflow_mul-result
-overflow_mul-result c =
-    let small : c.in-Ok.size ≤ least_output = subst (λ (x : Result ℕ Refusal). SmallWriting x) c.in-Ok.is c.requires in
-    search rules
-
-pub overflow_add-result : goal.overflow_add-result
-overflow_add-result c =
-    let small : c.in-Ok.size ≤ least_output = subst (λ (x : Result ℕ Refusal). SmallWriting x) c.in-Ok.is c.requires in
-    search rules
-
 pub returns-in-Ok : goal.returns-in-Ok
 unfolding packed_writing
 returns-in-Ok c = sym (ap packed_writing c.in-Ok.is)
