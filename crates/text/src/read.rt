@@ -3,12 +3,13 @@ ghost use Rattle.std.specs.Prelude.{◌≡◌, ◌≤◌, ◌*◌, length, repli
 ghost use Rattle.stored.specs.Layout.{node_size, clause_size, clauses_end, most_nodes, most_clauses};
 ghost use Rattle.stored.specs.Refusal.{answered};
 ghost use Rattle.stored.specs.Sheet.{sheet_answer};
-ghost use Rattle.typed.specs.Draft.{draft, sheet_bytes};
-ghost use Rattle.text.specs.Parts.{draft_refusal};
+ghost use Rattle.typed.specs.Draft.{sheet_bytes};
+ghost use Rattle.propositions.specs.Nodes.{so_far};
+ghost use Rattle.text.specs.Parts.{clauses_so_far, draft_refusal};
 ghost use Rattle.text.specs.Text.{ReadText};
 
 use crate::clause::{CLAUSE_BYTES, Clauses};
-use crate::sheet::sheet;
+use crate::sheet::{GotSheet, sheet};
 use lexer::brackets::too_deep;
 use lexer::ends_line;
 use propositions::nodes::{NODE_BYTES, Nodes};
@@ -26,43 +27,35 @@ fn zeros<const N: usize>() -> [u8; N]
     [0; N]
 }
 
-// Reads the sheet of these nodes and clauses.
-fn read_draft(
-    s: usize,
-    m: usize,
-    nodes: &[u8],
-    n: usize,
-    clauses: &[u8],
-    c: usize,
-) -> Result<Header, Refusal>
-    requires { (length nodes.now ≡ node_size * most_nodes) × (n ≤ most_nodes) × (length clauses.now ≡ clause_size * most_clauses) × (c ≤ most_clauses) }
-    ensures { result ≡ sheet_answer (sheet_bytes s m (draft nodes.now n) (draft clauses.now c)) }
+// Reads the sheet of what was read.
+fn read_draft(said: GotSheet, nodes: &Nodes, clauses: &Clauses) -> Result<Header, Refusal>
+    requires { (nodes.now.count ≤ most_nodes) × (clauses.now.count ≤ most_clauses) }
+    ensures { result ≡ sheet_answer (sheet_bytes said.signals said.names (so_far nodes.now) (clauses_so_far clauses.now)) }
 {
     let mut bytes: [u8; SHEET_BYTES] = zeros();
-    let size = assemble(&mut bytes, s, m, nodes, n, clauses, c);
+    let size = assemble(
+        &mut bytes,
+        said.signals,
+        said.names,
+        &nodes.bytes,
+        nodes.count,
+        &clauses.bytes,
+        clauses.count,
+    );
     read_sheet(&bytes[0..size])
 }
 
 // Refuses more than 64 nodes or 8 clauses, then what 1 to 9 refuse, then too few lent bytes.
-fn judge(
-    s: usize,
-    m: usize,
-    nodes: &[u8],
-    n: usize,
-    clauses: &[u8],
-    c: usize,
-    lent: usize,
-) -> Result<(), Refusal>
-    requires { (length nodes.now ≡ node_size * most_nodes) × (length clauses.now ≡ clause_size * most_clauses) }
-    ensures { result ≡ answered (draft_refusal s m (draft nodes.now n) (draft clauses.now c) lent) tt }
+fn judge(said: GotSheet, nodes: &Nodes, clauses: &Clauses, lent: usize) -> Result<(), Refusal>
+    ensures { result ≡ answered (draft_refusal said.signals said.names (so_far nodes.now) (clauses_so_far clauses.now) lent) tt }
 {
-    if layout::MOST_NODES < n {
+    if layout::MOST_NODES < nodes.count {
         return Err(Refusal::TooLarge);
     }
-    if layout::MOST_CLAUSES < c {
+    if layout::MOST_CLAUSES < clauses.count {
         return Err(Refusal::TooLarge);
     }
-    read_draft(s, m, nodes, n, clauses, c)?;
+    read_draft(said, nodes, clauses)?;
     if lent < layout::LEAST_OUTPUT {
         return Err(Refusal::ShortOutput);
     }
@@ -91,10 +84,14 @@ pub fn read_text(text: &[u8], out: &mut [u8]) -> Result<usize, Refusal>
     let Some(said) = sheet(text, &mut nodes, &mut clauses) else {
         return Err(Refusal::OutsideGrammar);
     };
-    let s = said.signals;
-    let m = said.names;
-    let n = nodes.count;
-    let c = clauses.count;
-    judge(s, m, &nodes.bytes, n, &clauses.bytes, c, out.len())?;
-    Ok(assemble(out, s, m, &nodes.bytes, n, &clauses.bytes, c))
+    judge(said, &nodes, &clauses, out.len())?;
+    Ok(assemble(
+        out,
+        said.signals,
+        said.names,
+        &nodes.bytes,
+        nodes.count,
+        &clauses.bytes,
+        clauses.count,
+    ))
 }
