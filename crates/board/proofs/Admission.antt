@@ -1,22 +1,13 @@
 -- Whether a board takes a cycle: the order of the refusals, and what is known where none applies.
-use Prim.Native.Nat.{ℕ, zero, suc, ◌-◌, ◌^◌, ◌≤◌, ◌<◌}
-use mathlib.Core.Bool.{Bool, true, false, ◌&&◌}
-use mathlib.Core.List.{List, [], ◌∷◌}
-use mathlib.Core.Path.{◌≡◌, refl, sym, ◌∙◌, ap}
-use native.Mathlib.Omega.{arith}
-use borrow.Author.Tests.{eqb-true, ltb-true, lt-ltb, le-ltb}
-use lib.Dec.{leb, ltb, eqb}
-use lib.ListN.{length, get_or, take, drop}
+use Rattle.std.proofs.Common.{ℕ, zero, suc, ◌-◌, ◌^◌, ◌≤◌, ◌<◌, Bool, true, false, ◌&&◌, List, [], ◌∷◌, ◌≡◌, refl, sym, ◌∙◌, ap, arith, eqb-true, ltb-true, lt-ltb, le-ltb, leb, ltb, eqb, length, get_or, take, drop, Ok, Err, add-one}
 use Rattle.semantics.proofs.Tests.{and_right}
 use Rattle.stored.specs.declared.Header.{Header}
-use Rattle.std.specs.Prelude.{Ok, Err}
 use Rattle.stored.specs.declared.refusal.Refusal.{Refusal}
 use Rattle.stored.specs.declared.refusal.Refusal.TheVariants.{InvalidCycles, FewWords, InvalidCycle, BoardFull}
 use Rattle.stored.specs.Refusal.{number_of, last_number}
 use Rattle.stored.proofs.Refusals.{refusal_applies, answered_value, answered_refusal, of_value, of_refusal}
 use Rattle.std.specs.List.{list_all}
 use Rattle.std.proofs.lemmas.List.Folds.{list_all_more}
-use native.Mathlib.Numerals.{add-one}
 use Rattle.stored.specs.Bytes.{every_below, lowest}
 use Rattle.stored.specs.Layout.{most_cycles, least_words}
 use Rattle.stored.specs.Sheet.{header_of, sheet_refusal, sheet_rules, sheet_answer}

@@ -1,13 +1,6 @@
 -- What an answer says of the refusal behind it, and how small a verdict's numbers are.
-use Prim.Native.Nat.{ℕ}
-use mathlib.Core.Bool.{Bool, true, false}
-use mathlib.Core.List.{List, [], ◌∷◌, ◌++◌}
-use mathlib.Core.Logic.{inl, inr}
-use mathlib.Core.Path.{◌≡◌, sym, ap, ◌∙◌}
-use native.Mathlib.Omega.{arith}
-use borrow.Author.Tests.{eqb-true, eqb-false}
-use lib.Dec.{eqb}
-use Rattle.std.specs.Prelude.{Result, Ok, Err, IfOk}
+use Rattle.std.proofs.Common.{ℕ, Bool, true, false, List, [], ◌∷◌, ◌++◌, inl, inr, ◌≡◌, sym, ap, ◌∙◌, arith, eqb-true, eqb, Result, Ok, Err, IfOk}
+use borrow.Author.Tests.{eqb-false}
 use Rattle.semantics.proofs.Tests.{test}
 use Rattle.stored.specs.declared.refusal.Refusal.{Refusal}
 use Rattle.stored.specs.Refusal.{number_of, refusal_numbered}

@@ -1,14 +1,6 @@
 -- What feeds do: one cycle taken, and the claim over every list of them.
-use Prim.Native.Nat.{ℕ, suc, ◌+◌, ◌-◌, ◌^◌, ◌≤◌, ◌<◌}
-use mathlib.Core.Bool.{Bool, true, false}
-use mathlib.Core.List.{List, [], ◌∷◌, ◌++◌, append_assoc, append-nil}
-use mathlib.Core.Logic.{inl, inr}
-use mathlib.Core.Path.{◌≡◌, refl, sym, ◌∙◌, ap, ap₂, subst}
-use native.Mathlib.Omega.{arith}
-use borrow.Author.Tests.{ne_eqb, eqb-true, ltb-true, ltb-false}
-use lib.Dec.{eqb, ltb}
-use lib.ListN.{length, get_or, set, take, drop, replicate, length-append, length-replicate, length-take, length-set, get_or-append}
-use lib.Seq.{take_all, take-suc, get_or-take, take-suc-set, get_or-append-add}
+use Rattle.std.proofs.Common.{ℕ, suc, ◌+◌, ◌-◌, ◌^◌, ◌≤◌, ◌<◌, Bool, true, false, List, [], ◌∷◌, ◌++◌, append_assoc, append-nil, inl, inr, ◌≡◌, refl, sym, ◌∙◌, ap, ap₂, subst, arith, ne_eqb, eqb-true, ltb-true, ltb-false, eqb, ltb, length, get_or, set, take, drop, replicate, length-append, length-take, length-set, take_all, take-suc, get_or-take, take-suc-set, get_or-append-add, Option, Some, Result, Ok, Err}
+use lib.ListN.{length-replicate, get_or-append}
 use Rattle.semantics.specs.Verdict.{verdict}
 use Rattle.semantics.proofs.Tests.{test}
 use Rattle.stored.specs.Sheet.{header_of, clauses_of, sheet_refusal}
@@ -16,7 +8,6 @@ use Rattle.stored.specs.Tree.{pick}
 use Rattle.traces.specs.Trace.{trace_refusal}
 use Rattle.traces.specs.Written.{trace_bytes}
 use Rattle.traces.proofs.Written.{trace_accepted, trace_cycles}
-use Rattle.std.specs.Prelude.{Option, Some, Result, Ok, Err}
 use Rattle.std.specs.Result.{result_ok}
 use Rattle.stored.specs.declared.refusal.Refusal.{Refusal}
 use Rattle.stored.specs.Refusal.{number_of, refusal_numbered, answered}

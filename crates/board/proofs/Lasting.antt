@@ -1,10 +1,5 @@
 -- Request 7, of a board: what is broken on a board stays broken on it.
-use Prim.Native.Nat.{ℕ, ◌<◌}
-use mathlib.Core.Bool.{true}
-use mathlib.Core.List.{List, [], ◌∷◌, ◌++◌}
-use mathlib.Core.Path.{◌≡◌, refl, sym, ◌∙◌, ap, ap₂, subst}
-use native.Mathlib.Omega.{arith}
-use lib.ListN.{length}
+use Rattle.std.proofs.Common.{ℕ, ◌<◌, true, List, [], ◌∷◌, ◌++◌, ◌≡◌, refl, sym, ◌∙◌, ap, ap₂, subst, arith, length, Some}
 use Rattle.semantics.specs.Clause.{fails}
 use Rattle.semantics.specs.Verdict as semantics
 use Rattle.semantics.specs.Verdict.{verdict}
@@ -15,7 +10,6 @@ use Rattle.stored.specs.Sheet.{clauses_of}
 use Rattle.checker.specs.Check as check
 use Rattle.checker.specs.Check.{told_whole}
 use Rattle.lines.specs.Input.{sheet_of}
-use Rattle.std.specs.Prelude.{Some}
 use Rattle.board.specs.declared.Board.{Board}
 use Rattle.board.specs.Board.{Sized, sheet_on, cycles_on, next_board}
 use Rattle.board.specs.Feeds.{Feed, board_after, taken_from, verdict_on, Shows, Told}

@@ -1,15 +1,9 @@
 -- A board that is opened, and the sheet of a new board.
-use Prim.Native.Nat.{ℕ, ◌+◌, ◌*◌, ◌≤◌, min}
-use mathlib.Core.List.{List, []}
-use mathlib.Core.Path.{◌≡◌, refl, ◌∙◌, ap}
-use native.Mathlib.Omega.{arith}
-use borrow.Author.Tests.{eqb-true}
-use lib.Dec.{leb}
-use lib.ListN.{length, get_or, take, replicate, length-replicate}
+use Rattle.std.proofs.Common.{ℕ, ◌+◌, ◌*◌, ◌≤◌, min, List, [], ◌≡◌, refl, ◌∙◌, ap, arith, eqb-true, leb, length, get_or, take, replicate, Ok, Err}
+use lib.ListN.{length-replicate}
 use lib.Seq.{sets, length-sets}
 use Rattle.semantics.proofs.Tests.{and_left, and_right}
 use Rattle.stored.specs.declared.Header.{Header}
-use Rattle.std.specs.Prelude.{Ok, Err}
 use Rattle.stored.specs.declared.refusal.Refusal.{Refusal}
 use Rattle.stored.proofs.Refusals.{answered_value, answered_refusal}
 use Rattle.stored.specs.Bytes.{word, framed_from}

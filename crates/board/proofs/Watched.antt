@@ -1,14 +1,10 @@
 -- The request's claim: what a new board shows after feeds.
-use Prim.Native.Nat.{ℕ}
-use mathlib.Core.List.{List, ◌++◌}
-use native.Mathlib.Omega.{arith}
-use mathlib.Core.Path.{◌≡◌, sym, ◌∙◌, ap, ap₂, subst}
+use Rattle.std.proofs.Common.{ℕ, List, ◌++◌, arith, ◌≡◌, sym, ◌∙◌, ap, ap₂, subst, Some, Ok, Err}
 use Rattle.semantics.specs.Verdict.{verdict}
 use Rattle.stored.specs.Sheet.{header_of, clauses_of, sheet_refusal}
 use Rattle.stored.specs.Tree.{pick}
 use Rattle.traces.specs.Written.{trace_bytes}
 use Rattle.checker.specs.Check.{told_whole, check_answer}
-use Rattle.std.specs.Prelude.{Some, Ok, Err}
 use Rattle.lines.specs.Input.{sheet_of}
 use Rattle.board.specs.declared.Board.{Board}
 use Rattle.stored.specs.Refusal.{answered}

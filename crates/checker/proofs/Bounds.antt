@@ -1,15 +1,6 @@
 -- How small the numbers of a verdict are, and that a refusal's number is one of the numbers that there are.
-use Prim.Native.Nat.{ℕ, suc, ◌+◌, ◌≤◌, ◌<◌}
-use mathlib.Core.Bool.{Bool, true, false, cond}
-use mathlib.Core.List.{List, [], ◌∷◌}
-use mathlib.Core.Logic.{inl, inr}
-use mathlib.Core.Path.{◌≡◌, refl, ap, ◌∙◌}
-use native.Mathlib.Omega.{arith}
-use borrow.Author.Tests.{eqb-true, eqb-false}
-use lib.Dec.{eqb, leb}
-use lib.ListN.{length, length-append}
-use lib.Pow.{pow_mono}
-use native.Mathlib.Nat.{lt_of_lt_of_le}
+use Rattle.std.proofs.Common.{ℕ, suc, ◌+◌, ◌≤◌, ◌<◌, Bool, true, false, cond, List, [], ◌∷◌, inl, inr, ◌≡◌, refl, ap, ◌∙◌, arith, eqb-true, eqb, leb, length, length-append, pow_mono, lt_of_lt_of_le, Ok, Err, IfOk}
+use borrow.Author.Tests.{eqb-false}
 use Rattle.stored.specs.Layout.{least_words}
 use Rattle.semantics.specs.Proposition.{Trace}
 use Rattle.semantics.specs.Clause.{Role, assumption_role, commitment, Clause}
@@ -24,7 +15,6 @@ use Rattle.stored.specs.Tree.{pick}
 use Rattle.stored.proofs.Rules.{length_in_order, lowest_law}
 use Rattle.stored.proofs.Accepted.{opened}
 use Rattle.traces.proofs.Accepted.{trace_opened, cycles_count}
-use Rattle.std.specs.Prelude.{Ok, Err, IfOk}
 use Rattle.stored.specs.Refusal.{last_number, refusal_numbered, answered}
 use Rattle.checker.specs.Table.{or_else, words_refusal, node_rules, node_refusal, table_refusal}
 use Rattle.checker.specs.Check.{told, told_whole, check_refusal, check_answer}

@@ -1,12 +1,6 @@
 -- The check's answer from what was read: refused by the lowest number, or the verdict.
-use Prim.Native.Nat.{ℕ, zero, suc, ◌^◌, ◌≤◌, ◌<◌}
-use native.Mathlib.Omega.{arith}
-use mathlib.Core.Bool.{true, false}
-use mathlib.Core.List.{List}
-use mathlib.Core.Path.{◌≡◌, refl, sym, ap, ◌∙◌}
-use lib.Dec.{eqb}
-use lib.ListN.{length, replicate}
-use borrow.Author.Tests.{le-leb, lt-leb}
+use Rattle.std.proofs.Common.{ℕ, zero, suc, ◌^◌, ◌≤◌, ◌<◌, arith, true, false, List, ◌≡◌, refl, sym, ap, ◌∙◌, eqb, length, replicate, le-leb, Ok}
+use borrow.Author.Tests.{lt-leb}
 use Rattle.stored.specs.Layout.{least_words}
 use Rattle.semantics.specs.Proposition.{Trace}
 use Rattle.semantics.specs.Clause.{Clause}
@@ -15,7 +9,6 @@ use Rattle.semantics.specs.Reach.{clause_fits, all_fit}
 use Rattle.semantics.proofs.Tests.{and_left, and_right}
 use Rattle.stored.specs.declared.Header.{Header}
 use Rattle.stored.specs.declared.StoredClause.{StoredClause}
-use Rattle.std.specs.Prelude.{Ok}
 use Rattle.stored.specs.Bytes.{in_order, lowest}
 use Rattle.traces.specs.Columns.{columns_of, trace_of}
 use Rattle.stored.specs.Node.{formula, node_at, requirement_sorts}

@@ -1,15 +1,7 @@
 -- What an accepted sheet and trace give a fill.
-use Prim.Native.Nat.{ℕ, zero, suc, ◌+◌, ◌*◌, ◌≤◌, ◌<◌}
-use mathlib.Core.List.{List, ◌∷◌}
-use mathlib.Core.Logic.{inl, inr}
-use mathlib.Core.Path.{◌≡◌, refl, sym, ap, ap₂, subst, ◌∙◌}
-use native.Mathlib.Omega.{arith}
-use borrow.Author.Tests.{ltb-true, ltb-false}
-use lib.Dec.{ltb}
-use lib.ListN.{length}
+use Rattle.std.proofs.Common.{ℕ, zero, suc, ◌+◌, ◌*◌, ◌≤◌, ◌<◌, List, ◌∷◌, inl, inr, ◌≡◌, refl, sym, ap, ap₂, subst, ◌∙◌, arith, ltb-true, ltb-false, ltb, length, Ok}
 use Rattle.stored.specs.Layout.{least_words}
 use Rattle.stored.specs.declared.Header.{Header}
-use Rattle.std.specs.Prelude.{Ok}
 use Rattle.stored.specs.Bytes.{in_order}
 use Rattle.traces.specs.Columns.{columns_of, trace_of}
 use Rattle.stored.specs.Node.{formula, requirement_sorts, sort_of, node_at, node_right, operands_right}

@@ -1,12 +1,6 @@
 -- The order of the refusals of check and table.
-use Prim.Native.Nat.{ℕ, zero, suc, ◌≤◌, ◌<◌}
-use mathlib.Core.Bool.{Bool, true, false, not, cond, ◌||◌}
-use mathlib.Core.List.{List, [], ◌∷◌}
-use mathlib.Core.Path.{◌≡◌, sym, ◌∙◌, ap}
-use native.Mathlib.Omega.{arith}
-use borrow.Author.Tests.{eq-eqb, ltb-true, le-leb, lt-leb}
-use lib.Dec.{ltb, eqb}
-use lib.ListN.{length, replicate}
+use Rattle.std.proofs.Common.{ℕ, zero, suc, ◌≤◌, ◌<◌, Bool, true, false, not, cond, ◌||◌, List, [], ◌∷◌, ◌≡◌, sym, ◌∙◌, ap, arith, eq-eqb, ltb-true, le-leb, ltb, eqb, length, replicate, Result, Ok, Err}
+use borrow.Author.Tests.{lt-leb}
 use Rattle.stored.specs.Layout.{least_words}
 use Rattle.semantics.proofs.Tests.{and_left, and_right}
 use Rattle.stored.specs.declared.Node.{Node}
@@ -21,7 +15,6 @@ use Rattle.stored.proofs.Refusals.{refusal_applies, answered_value, answered_ref
 use Rattle.stored.proofs.Accepted.{answer_accepted, answer_refused}
 use Rattle.traces.specs.Trace.{trace_refusal, trace_answer}
 use Rattle.traces.proofs.Accepted.{cycles_accepted, cycles_refused}
-use Rattle.std.specs.Prelude.{Result, Ok, Err}
 use Rattle.stored.specs.Tree.{pick}
 use Rattle.tables.specs.Table.{standing, Inside}
 use Rattle.checker.specs.Table.{name_placed, names_placed, heeded, node_rules, node_refusal, or_else, words_refusal, words_after}

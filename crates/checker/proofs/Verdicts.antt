@@ -1,14 +1,5 @@
 -- The finding from the first failing assumption and the first failing commitment, and the advice bit by bit.
-use Prim.Native.Nat.{ℕ, zero, suc, ◌+◌, ◌*◌, ◌%◌, ◌^◌, ◌≤◌, ◌<◌}
-use native.Mathlib.Omega.{arith}
-use mathlib.Core.Bool.{Bool, true, false, cond}
-use mathlib.Core.Logic.{inl, inr}
-use native.Mathlib.Nat.{eq-or-lt_of_le}
-use mathlib.Core.Path.{◌≡◌, refl, sym, ap, ap₂, ◌∙◌}
-use lib.Bits.{bit_or}
-use lib.Dec.{eqb}
-use lib.ListN.{length}
-use borrow.Author.Tests.{eq-eqb, ne_eqb, lt-ltb}
+use Rattle.std.proofs.Common.{ℕ, zero, suc, ◌+◌, ◌*◌, ◌%◌, ◌^◌, ◌≤◌, ◌<◌, arith, Bool, true, false, cond, inl, inr, eq-or-lt_of_le, ◌≡◌, refl, sym, ap, ap₂, ◌∙◌, bit_or, eqb, length, eq-eqb, ne_eqb, lt-ltb, Option, None, Some, is_some}
 use Rattle.semantics.specs.Proposition.{Trace}
 use Rattle.semantics.specs.Clause.{Role, assumption_role, commitment, advice, Clause, breaks, fails}
 use Rattle.semantics.specs.Verdict as semantics
@@ -26,7 +17,6 @@ use Rattle.checker.specs.declared.check.Finding.TheVariants.{Excused, Broken, Ho
 use Rattle.intervals.specs.Places.{places, numbered, IsLeast}
 use Rattle.checker.specs.declared.failing.Failing.{Failing}
 use Rattle.checker.specs.Check.{told}
-use Rattle.std.proofs.Common.{Option, None, Some, is_some}
 use Rattle.checker.specs.Clauses.{PlaceIs, First, place_of}
 use Rattle.intervals.proofs.Places.{fails_least, place_least}
 

@@ -1,11 +1,5 @@
 -- The table operation from what reading the sheet and the trace answered.
-use Prim.Native.Nat.{ℕ, ◌≤◌, ◌<◌}
-use mathlib.Core.List.{List}
-use mathlib.Core.Path.{◌≡◌, refl, sym, ◌∙◌, ap}
-use mathlib.Core.Bool.{Bool, true, false}
-use lib.Dec.{eqb}
-use lib.ListN.{length, replicate}
-use Rattle.std.specs.Prelude.{Result, Ok, Err}
+use Rattle.std.proofs.Common.{ℕ, ◌≤◌, ◌<◌, List, ◌≡◌, refl, sym, ◌∙◌, ap, Bool, true, false, eqb, length, replicate, Result, Ok, Err}
 use Rattle.stored.specs.Layout.{least_words}
 use Rattle.stored.specs.declared.Header.{Header}
 use Rattle.stored.specs.declared.refusal.Refusal.{Refusal}

@@ -1,15 +1,8 @@
 -- A board in lent cells: what open and feed leave there.
-use Prim.Native.Nat.{ℕ, ◌*◌, ◌<◌}
-use mathlib.Core.Bool.{false}
-use mathlib.Core.List.{List}
-use mathlib.Core.Path.{◌≡◌, refl, sym, ◌∙◌, ap, ap₂, subst}
-use native.Mathlib.Omega.{arith}
-use borrow.Author.Tests.{ne_eqb}
-use lib.Dec.{eqb}
+use Rattle.std.proofs.Common.{ℕ, ◌*◌, ◌<◌, false, List, ◌≡◌, refl, sym, ◌∙◌, ap, ap₂, subst, arith, ne_eqb, eqb, None, Result, Ok, Err, IfOk}
 use Rattle.stored.specs.Sheet.{sheet_refusal}
 use Rattle.stored.specs.Tree.{pick}
 use Rattle.checker.specs.declared.check.Verdict.{Verdict}
-use Rattle.std.specs.Prelude.{None, Result, Ok, Err, IfOk}
 use Rattle.std.specs.Result.{result_ok}
 use Rattle.stored.specs.declared.refusal.Refusal.{Refusal}
 use Rattle.stored.specs.Refusal.{number_of}

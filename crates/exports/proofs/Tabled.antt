@@ -1,22 +1,13 @@
 -- The table's rows in the lent ones, and its refusals where these are too few.
-use Prim.Native.Nat.{ℕ, zero, suc, ◌+◌, ◌*◌, ◌≤◌, ◌<◌}
-use mathlib.Core.Bool.{Bool, true, false, cond, ◌&&◌}
-use mathlib.Core.List.{List, [], ◌∷◌, ◌++◌}
-use mathlib.Core.Path.{◌≡◌, refl, sym, ◌∙◌, ap, ap₂, subst}
-use native.Mathlib.Omega.{arith}
-use native.Mathlib.Nat.{not-suc-le-zero, le_of_suc-le-suc}
-use native.Mathlib.Numerals.{add-one}
-use borrow.Author.Tests.{eqb-false, ne_eqb, le-leb, lt-leb}
-use lib.Dec.{eqb, leb}
-use lib.ListN.{length, get_or, set, take, drop, replicate, length-replicate}
-use lib.Seq.{take_all}
+use Rattle.std.proofs.Common.{ℕ, zero, suc, ◌+◌, ◌*◌, ◌≤◌, ◌<◌, Bool, true, false, cond, ◌&&◌, List, [], ◌∷◌, ◌++◌, ◌≡◌, refl, sym, ◌∙◌, ap, ap₂, subst, arith, not-suc-le-zero, le_of_suc-le-suc, add-one, ne_eqb, le-leb, eqb, leb, length, get_or, set, take, drop, replicate, take_all, Result, Ok, Err, is_err}
+use borrow.Author.Tests.{eqb-false, lt-leb}
+use lib.ListN.{length-replicate}
 use Rattle.stored.specs.Layout.{least_words}
 use Rattle.stored.specs.Bytes.{lowest}
 use Rattle.stored.specs.Sheet.{header_of, sheet_refusal}
 use Rattle.traces.specs.Trace.{trace_refusal}
 use Rattle.stored.specs.Tree.{pick}
 use Rattle.stored.proofs.Rules.{length_in_order}
-use Rattle.std.specs.Prelude.{Result, Ok, Err, is_err}
 use Rattle.stored.specs.declared.refusal.Refusal.{Refusal}
 use Rattle.stored.specs.Refusal.{number_of, answered, answer_number}
 use Rattle.stored.proofs.Refusals.{number_some, of_refusal, number_answered}

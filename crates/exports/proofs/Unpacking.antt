@@ -1,15 +1,9 @@
 -- A packed answer of the check is read back as it was.
-use Prim.Native.Nat.{ℕ, ◌+◌, ◌*◌, ◌/◌, ◌%◌, ◌<◌}
-use mathlib.Core.Bool.{false}
-use mathlib.Core.List.{List}
-use mathlib.Core.Path.{◌≡◌, refl, ◌∙◌, ap, ap₂}
-use native.Mathlib.Omega.{arith}
-use lib.Dec.{eqb}
+use Rattle.std.proofs.Common.{ℕ, ◌+◌, ◌*◌, ◌/◌, ◌%◌, ◌<◌, false, List, ◌≡◌, refl, ◌∙◌, ap, ap₂, arith, eqb, Result, Ok, Err, IfOk}
 use Rattle.stored.specs.Tree.{pick}
 use Rattle.checker.specs.declared.check.Place.{Place}
 use Rattle.checker.specs.declared.check.Finding.{Finding}
 use Rattle.checker.specs.declared.check.Finding.TheVariants.{Excused, Broken, Holds}
-use Rattle.std.specs.Prelude.{Result, Ok, Err, IfOk}
 use Rattle.stored.specs.declared.refusal.Refusal.{Refusal}
 use Rattle.stored.specs.Refusal.{number_of, refusal_numbered}
 use Rattle.stored.proofs.Refusals.{numbered_number}

@@ -1,14 +1,7 @@
 -- Formulas: a piece by the word or sign that it begins with, pieces joined, and a whole formula.
-use Prim.Native.Nat.{ℕ, zero, suc, ◌+◌, ◌-◌, ◌≤◌, ◌<◌}
-use native.Mathlib.Omega.{arith}
-use mathlib.Core.Bool.{Bool, true, ◌&&◌, true≢false}
-use mathlib.Core.List.{List, [], ◌∷◌}
-use mathlib.Core.Logic.{◌⊎◌, inl, inr}
+use Rattle.std.proofs.Common.{ℕ, zero, suc, ◌+◌, ◌-◌, ◌≤◌, ◌<◌, arith, Bool, true, ◌&&◌, true≢false, List, [], ◌∷◌, ◌⊎◌, inl, inr, ◌≡◌, refl, sym, ap, subst, ◌∙◌, leb, eqb, leb-true, ne_eqb, eqb-true, Option}
 use mathlib.Core.Option.{none}
-use mathlib.Core.Path.{◌≡◌, refl, sym, ap, subst, ◌∙◌}
-use lib.Dec.{leb, eqb}
-use borrow.Author.Tests.{leb-true, ne_eqb, eqb-true, eqb-false}
-use Rattle.std.specs.Prelude.{Option}
+use borrow.Author.Tests.{eqb-false}
 use Rattle.semantics.proofs.Tests.{test, and_left, and_right}
 use Rattle.grammar.specs.Token.{Token, plain, signalled, named, number, outside, open_round, close_round, star_sign}
 use Rattle.grammar.specs.Tree.{OrF, one_f, or_f, chain_f, and_f, unit_f, chop_f, UnitF, pointF, stretchF, wholeF, braceF, slen_f, scountF, sdurF, draw_f, at_f, gap_f, bracketF, starF}

@@ -1,10 +1,5 @@
 -- The pieces of a formula that have no formula in them.
-use Prim.Native.Nat.{ℕ, zero, suc, ◌+◌, ◌-◌, ◌*◌, ◌≤◌, ◌<◌}
-use native.Mathlib.Omega.{arith}
-use mathlib.Core.List.{List}
-use mathlib.Core.Logic.{inl}
-use mathlib.Core.Path.{◌≡◌, refl, sym, ap, ◌∙◌}
-use lib.ListN.{length}
+use Rattle.std.proofs.Common.{ℕ, zero, suc, ◌+◌, ◌-◌, ◌*◌, ◌≤◌, ◌<◌, arith, List, inl, ◌≡◌, refl, sym, ap, ◌∙◌, length}
 use Rattle.semantics.specs.Formula.{Comparison}
 use Rattle.stored.specs.Tree.{comparison_of}
 use Rattle.grammar.specs.Token.{plain, number, named, signalled, close_round, comma_sign}

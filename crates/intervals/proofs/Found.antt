@@ -1,15 +1,9 @@
 -- The words that the search reads off three rows.
-use Prim.Native.Nat.{ℕ, suc, ◌-◌, ◌^◌, ◌≤◌, ◌<◌}
-use native.Mathlib.Omega.{arith}
-use native.Mathlib.Nat.{lt_of_le_of_lt, eq-or-lt_of_le}
-use mathlib.Core.Bool.{Bool, true, false, not, ◌&&◌, true≢false, false≢true}
-use mathlib.Core.Logic.{inl, inr}
-use mathlib.Core.Path.{◌≡◌, refl, sym, ap, subst, ◌∙◌}
-use lib.Bits.{bit_and, and_le_l}
+use Rattle.std.proofs.Common.{ℕ, suc, ◌-◌, ◌^◌, ◌≤◌, ◌<◌, arith, lt_of_le_of_lt, eq-or-lt_of_le, Bool, true, false, not, ◌&&◌, true≢false, inl, inr, ◌≡◌, refl, sym, ap, subst, ◌∙◌, bit_and, leb, ltb, eqb, pow_pos, leb-true, leb-false, le-leb, ltb-true, lt-ltb, eqb-true, eq-eqb, ne_eqb}
+use mathlib.Core.Bool.{false≢true}
+use lib.Bits.{and_le_l}
 use lib.Count.{count_trailing_zeros}
-use lib.Dec.{leb, ltb, eqb, leb-zero}
-use lib.Pow.{pow_pos}
-use borrow.Author.Tests.{leb-true, leb-false, le-leb, ltb-true, lt-ltb, eqb-true, eq-eqb, ne_eqb}
+use lib.Dec.{leb-zero}
 use Rattle.semantics.specs.Cycles.{some_below, some_from, some_in}
 use Rattle.semantics.specs.Proposition.{bit}
 use Rattle.semantics.specs.Clause.{ClauseType, pref, init, anti, implies, follows, triggers}

@@ -1,11 +1,6 @@
 -- A clause is broken at i, j, k exactly if some cycles of the trace for the names that it quantifies universally leave the interval unanswered.
-use Prim.Native.Nat.{ℕ, suc, ◌≤◌, ◌<◌}
-use native.Mathlib.Omega.{arith}
-use mathlib.Core.Bool.{Bool, true, false, not, ◌&&◌, false≢true}
-use mathlib.Core.Path.{◌≡◌, refl, sym, ap, ◌∙◌}
-use lib.Dec.{leb, eqb}
-use lib.ListN.{length}
-use borrow.Author.Tests.{leb-true}
+use Rattle.std.proofs.Common.{ℕ, suc, ◌≤◌, ◌<◌, arith, Bool, true, false, not, ◌&&◌, ◌≡◌, refl, sym, ap, ◌∙◌, leb, eqb, length, leb-true}
+use mathlib.Core.Bool.{false≢true}
 use Rattle.semantics.specs.Cycles.{some_in}
 use Rattle.semantics.specs.Proposition.{Trace}
 use Rattle.semantics.specs.Placement.{Names, no_names, union, without, Placement, unplaced, place_name, some_placement}

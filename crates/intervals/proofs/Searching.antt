@@ -1,14 +1,5 @@
 -- The turns of the search, over the three arrays of rows.
-use Prim.Native.Nat.{ℕ, ◌+◌, ◌/◌, ◌%◌, ◌≤◌, ◌<◌, min}
-use native.Mathlib.Omega.{arith}
-use native.Mathlib.Nat.{eq-or-lt_of_le}
-use mathlib.Core.Bool.{Bool, true, false}
-use mathlib.Core.List.{List}
-use mathlib.Core.Logic.{inl, inr}
-use mathlib.Core.Path.{◌≡◌, sym, ap, subst, ◌∙◌}
-use lib.ListN.{get_or}
-use lib.Dec.{ltb}
-use borrow.Author.Tests.{ltb-true, ltb-false}
+use Rattle.std.proofs.Common.{ℕ, ◌+◌, ◌/◌, ◌%◌, ◌≤◌, ◌<◌, min, arith, eq-or-lt_of_le, Bool, true, false, List, inl, inr, ◌≡◌, sym, ap, subst, ◌∙◌, get_or, ltb, ltb-true, ltb-false}
 use Rattle.semantics.specs.Proposition.{bit}
 use Rattle.semantics.specs.Clause.{ClauseType}
 use Rattle.semantics.proofs.Tests.{test, and_intro, and_false_left, and_false_right}

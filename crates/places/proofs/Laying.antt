@@ -1,10 +1,6 @@
 -- Tables for other placements, and what the rows that are gathered from them mean.
-use Prim.Native.Nat.{ℕ, ◌-◌, ◌≤◌, ◌<◌}
-use native.Mathlib.Omega.{arith}
-use mathlib.Core.Bool.{Bool, true, false, ◌&&◌, ◌||◌}
-use mathlib.Core.List.{List}
-use mathlib.Core.Path.{◌≡◌, sym, ap, subst, ◌∙◌}
-use lib.ListN.{length, get_or, replicate, get_or-replicate}
+use Rattle.std.proofs.Common.{ℕ, ◌-◌, ◌≤◌, ◌<◌, arith, Bool, true, false, ◌&&◌, ◌||◌, List, ◌≡◌, sym, ap, subst, ◌∙◌, length, get_or, replicate}
+use lib.ListN.{get_or-replicate}
 use Rattle.semantics.specs.Proposition.{Trace, bit}
 use Rattle.semantics.specs.Formula.{holds}
 use Rattle.semantics.specs.Placement.{Placement, marks, some_placement}

@@ -1,12 +1,7 @@
 -- The task of a clause and the clause.
-use Prim.Native.Nat.{ℕ, suc, ◌-◌, ◌^◌, ◌/◌, ◌%◌, ◌≤◌, ◌<◌}
-use native.Mathlib.Omega.{arith}
-use mathlib.Core.Bool.{Bool, true, ◌&&◌}
-use mathlib.Core.List.{[], ◌∷◌}
-use mathlib.Core.Path.{◌≡◌, refl, sym, ap, ap₂, fun_ext, ◌∙◌}
-use lib.Bits.{bit_and, bit_or, or_lt}
-use lib.Dec.{ltb}
-use lib.ListN.{length}
+use Rattle.std.proofs.Common.{ℕ, suc, ◌-◌, ◌^◌, ◌/◌, ◌%◌, ◌≤◌, ◌<◌, arith, Bool, true, ◌&&◌, [], ◌∷◌, ◌≡◌, refl, sym, ap, ap₂, ◌∙◌, bit_and, bit_or, ltb, length}
+use mathlib.Core.Path.{fun_ext}
+use lib.Bits.{or_lt}
 use Rattle.semantics.specs.Proposition.{Trace, bit}
 use Rattle.semantics.specs.Placement.{Names, union, Placement, unplaced, some_placement}
 use Rattle.semantics.specs.Clause.{Part, breaks}

@@ -1,11 +1,6 @@
 -- The programs' inputs as those of table and check.
-use Prim.Native.Nat.{ℕ, ◌-◌, ◌≤◌}
-use mathlib.Core.List.{List, [], ◌∷◌}
-use mathlib.Core.Path.{◌≡◌, sym, ◌∙◌, ap}
-use native.Mathlib.Omega.{arith}
-use lib.Dec.{leb}
-use lib.ListN.{length, get_or, take, drop, replicate, length-drop, length-replicate}
-use lib.Seq.{take_all}
+use Rattle.std.proofs.Common.{ℕ, ◌-◌, ◌≤◌, List, [], ◌∷◌, ◌≡◌, sym, ◌∙◌, ap, arith, leb, length, get_or, take, drop, replicate, length-drop, take_all}
+use lib.ListN.{length-replicate}
 use Rattle.stored.specs.Layout.{least_words}
 use Rattle.stored.specs.Bytes.{word, lowest}
 use Rattle.stored.specs.Refusal.{answered}

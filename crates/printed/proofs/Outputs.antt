@@ -1,14 +1,8 @@
 -- From what the operations that write promise to what the programs write.
-use Prim.Native.Nat.{ℕ, ◌+◌, ◌≤◌, ◌<◌}
-use mathlib.Core.Bool.{Bool, true, false, cond, false≢true}
-use mathlib.Core.List.{List}
-use mathlib.Core.Path.{◌≡◌, refl, sym, ◌∙◌, ap, subst}
-use native.Mathlib.Omega.{arith}
-use borrow.Author.Tests.{eqb-true, le-ltb}
-use lib.Dec.{eqb, ltb}
-use lib.ListN.{length, take, drop, replicate, length-take, length-replicate}
-use lib.Seq.{sets, sets-eq, take_at, length-sets}
-use Rattle.std.specs.Prelude.{Result, Ok, Err, IfOk}
+use Rattle.std.proofs.Common.{ℕ, ◌+◌, ◌≤◌, ◌<◌, Bool, true, false, cond, List, ◌≡◌, refl, sym, ◌∙◌, ap, subst, arith, eqb-true, le-ltb, eqb, ltb, length, take, drop, replicate, length-take, take_at, Result, Ok, Err, IfOk}
+use mathlib.Core.Bool.{false≢true}
+use lib.ListN.{length-replicate}
+use lib.Seq.{sets, sets-eq, length-sets}
 use Rattle.stored.specs.declared.refusal.Refusal.{Refusal}
 use Rattle.stored.specs.Refusal.{number_of, answer_number}
 use Rattle.stored.proofs.Refusals.{number_most, number_some}

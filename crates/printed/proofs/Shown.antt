@@ -1,15 +1,10 @@
 -- Laws of the line of a verdict and of the page of a table.
-use Prim.Native.Nat.{ℕ, ◌+◌, ◌*◌, ◌≤◌, ◌<◌}
-use mathlib.Core.List.{List, [], ◌∷◌, ◌++◌}
-use mathlib.Core.Path.{◌≡◌, refl, sym, ◌∙◌, subst}
-use native.Mathlib.Omega.{arith}
-use lib.ListN.{length, get_or, drop, drop_of_length-le}
+use Rattle.std.proofs.Common.{ℕ, ◌+◌, ◌*◌, ◌≤◌, ◌<◌, List, [], ◌∷◌, ◌++◌, ◌≡◌, refl, sym, ◌∙◌, subst, arith, length, get_or, drop, drop_of_length-le, Result, Ok, Err, IfOk}
 use Rattle.stored.proofs.Rules.{length_in_order}
 use Rattle.checker.specs.declared.check.Finding.{Finding}
 use Rattle.checker.specs.declared.check.Finding.TheVariants.{Excused, Broken, Holds}
 use Rattle.checker.specs.declared.check.Verdict.{Verdict}
 use Rattle.checker.specs.Small.{SmallFinding, SmallVerdict}
-use Rattle.std.specs.Prelude.{Result, Ok, Err, IfOk}
 use Rattle.stored.specs.declared.refusal.Refusal.{Refusal}
 use Rattle.stored.specs.Refusal.{number_of}
 use Rattle.stored.specs.Sheet.{sheet_refusal}

@@ -1,10 +1,6 @@
 -- A chain of operands with one joiner between them, read by a loop. `Chain` says what the grammar and the nodes have for one joiner; the
 -- laws after it are the loop's.
-use Prim.Native.Nat.{ℕ, ◌-◌, ◌<◌}
-use native.Mathlib.Omega.{arith}
-use mathlib.Core.List.{List, ◌∷◌}
-use mathlib.Core.Logic.{◌⊎◌, inl, inr}
-use mathlib.Core.Path.{◌≡◌, sym, ap, ap₂, ◌∙◌}
+use Rattle.std.proofs.Common.{ℕ, ◌-◌, ◌<◌, arith, List, ◌∷◌, ◌⊎◌, inl, inr, ◌≡◌, sym, ap, ap₂, ◌∙◌}
 use Rattle.grammar.specs.Token.{Token, plain}
 use Rattle.grammar.specs.Reader.{State, sign, run, answer}
 use Rattle.typed.specs.Draft.{Draft, last, node, put, put_joined}

@@ -1,12 +1,6 @@
 -- Single tokens that the reader takes, in any room.
-use Prim.Native.Nat.{ℕ, zero, suc, ◌-◌, ◌<◌}
-use native.Mathlib.Omega.{arith}
-use mathlib.Core.Bool.{Bool, true, false}
-use mathlib.Core.List.{List, [], ◌∷◌}
+use Rattle.std.proofs.Common.{ℕ, zero, suc, ◌-◌, ◌<◌, arith, Bool, true, false, List, [], ◌∷◌, ◌≡◌, refl, ap, ◌∙◌, eqb, eq-eqb, ne_eqb}
 use mathlib.Core.Option.{none}
-use mathlib.Core.Path.{◌≡◌, refl, ap, ◌∙◌}
-use lib.Dec.{eqb}
-use borrow.Author.Tests.{eq-eqb, ne_eqb}
 use Rattle.semantics.specs.Formula.{Comparison, below, at_most, equal, at_least, above}
 use Rattle.grammar.specs.Token.{Token, plain, signalled, named, number, outside, comparison_sign, open_round, close_round, comma_sign}
 use Rattle.grammar.specs.Reader.{State, sign, a_number, a_name, a_signal, a_comparison, run, answer}

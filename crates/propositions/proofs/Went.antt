@@ -1,12 +1,6 @@
 -- Tokens and pieces read one after another.
-use Prim.Native.Nat.{ℕ, suc, ◌+◌, ◌-◌, ◌≤◌, ◌<◌}
-use native.Mathlib.Omega.{arith}
-use mathlib.Core.List.{List, ◌∷◌}
-use mathlib.Core.Logic.{inl}
+use Rattle.std.proofs.Common.{ℕ, suc, ◌+◌, ◌-◌, ◌≤◌, ◌<◌, arith, List, ◌∷◌, inl, ◌≡◌, refl, ap, ◌∙◌, length, Option, Some, None, MatchOption}
 use mathlib.Core.Option.{none}
-use mathlib.Core.Path.{◌≡◌, refl, ap, ◌∙◌}
-use lib.ListN.{length}
-use Rattle.std.specs.Prelude.{Option, Some, None, MatchOption}
 use Rattle.grammar.specs.Token.{Token, plain, open_round, close_round}
 use Rattle.grammar.specs.Reader.{State, sign, run, answer}
 use Rattle.stored.specs.declared.Node.{Node}

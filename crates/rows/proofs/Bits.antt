@@ -1,16 +1,12 @@
 -- Laws of bits, over the width.
-use Prim.Native.Nat.{ℕ, zero, suc, ◌+◌, ◌-◌, ◌*◌, ◌/◌, ◌%◌, ◌^◌, ◌≤◌, ◌<◌, min, max}
-use mathlib.Core.Bool.{Bool, true, false, not, cond, ◌&&◌, ◌||◌}
-use mathlib.Core.Logic.{◌⊎◌, inl, inr}
-use mathlib.Core.Path.{◌≡◌, refl, sym, ap, ap₂, subst, ◌∙◌}
-use native.Mathlib.Nat.{div-eq_of_lt, lt_of_lt_of_le, mul_assoc, mul-mod_left, pow-suc}
-use native.Mathlib.Omega.{arith}
-use lib.Dec.{leb, eqb, eqb-suc-zero, eqb-suc-suc}
+use Rattle.std.proofs.Common.{ℕ, zero, suc, ◌+◌, ◌-◌, ◌*◌, ◌/◌, ◌%◌, ◌^◌, ◌≤◌, ◌<◌, min, max, Bool, true, false, not, cond, ◌&&◌, ◌||◌, ◌⊎◌, inl, inr, ◌≡◌, refl, sym, ap, ap₂, subst, ◌∙◌, lt_of_lt_of_le, mul_assoc, pow-suc, arith, leb, eqb, pow_pos, pow_mono, pow-add, bit_and, bit_or, bit_xor, leb-true, leb-false, eq-eqb, eqb-true}
+use native.Mathlib.Nat.{div-eq_of_lt, mul-mod_left}
+use lib.Dec.{eqb-suc-zero, eqb-suc-suc}
 use lib.Arith.{digits_mod}
-use lib.Pow.{pow_pos, pow_mono, pow-add, shl-shr, field, mod-mod-pow}
-use lib.Bits.{bit_and, bit_or, bit_xor, differ, and_step, or_step, xor_step, and_shr, or_shr, xor_shr}
+use lib.Pow.{shl-shr, field, mod-mod-pow}
+use lib.Bits.{differ, and_step, or_step, xor_step, and_shr, or_shr, xor_shr}
 use lib.Count.{ones, ones_step, under, count_trailing_zeros}
-use borrow.Author.Tests.{leb-true, leb-false, eq-eqb, eqb-true, eqb-false}
+use borrow.Author.Tests.{eqb-false}
 use Rattle.semantics.specs.Cycles.{count_below}
 use Rattle.semantics.specs.Proposition.{bit}
 use Rattle.semantics.proofs.Bits.{bit_shr, bit_zero, bit_suc}

@@ -1,9 +1,5 @@
 -- A column stands for a test of cycles: the rows made from the column are the rows of the test.
-use Prim.Native.Nat.{ℕ, suc, ◌+◌, ◌-◌, ◌≤◌, ◌<◌}
-use mathlib.Core.Bool.{Bool, not, ◌&&◌, ◌||◌}
-use mathlib.Core.Path.{◌≡◌, refl, ap, ap₂}
-use native.Mathlib.Omega.{arith}
-use lib.Dec.{leb, eqb}
+use Rattle.std.proofs.Common.{ℕ, suc, ◌+◌, ◌-◌, ◌≤◌, ◌<◌, Bool, not, ◌&&◌, ◌||◌, ◌≡◌, refl, ap, ap₂, arith, leb, eqb}
 use Rattle.semantics.specs.Cycles.{some_in, every_from, count_from}
 use Rattle.semantics.specs.Proposition.{bit}
 use Rattle.semantics.specs.Formula.{Comparison, compared, Symbol, low, high, either, low_stretch, high_stretch, either_stretch, steady, drawn_on}

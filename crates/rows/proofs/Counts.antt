@@ -1,13 +1,8 @@
 -- Laws of counts and lengths.
-use Prim.Native.Nat.{ℕ, zero, suc, ◌+◌, ◌-◌, ◌^◌, ◌≤◌, ◌<◌}
-use mathlib.Core.Bool.{Bool, true, false, not, cond, ◌&&◌}
-use mathlib.Core.Logic.{inl, inr}
-use mathlib.Core.Path.{◌≡◌, refl, sym, ap, ap₂, ◌∙◌}
-use native.Mathlib.Omega.{arith}
-use lib.Dec.{leb, ltb, eqb}
-use lib.Bits.{bit_and, and_le_l, and_le_r}
+use Rattle.std.proofs.Common.{ℕ, zero, suc, ◌+◌, ◌-◌, ◌^◌, ◌≤◌, ◌<◌, Bool, true, false, not, cond, ◌&&◌, inl, inr, ◌≡◌, refl, sym, ap, ap₂, ◌∙◌, arith, leb, ltb, eqb, bit_and, ltb-true, ltb-false, lt-ltb, le-ltb, leb-true, leb-false, le-leb, eqb-true, eq-eqb}
+use lib.Bits.{and_le_l, and_le_r}
 use lib.Count.{ones, count_trailing_zeros}
-use borrow.Author.Tests.{ltb-true, ltb-false, lt-ltb, le-ltb, leb-true, leb-false, le-leb, lt-leb, eqb-true, eqb-false, eq-eqb, not-true}
+use borrow.Author.Tests.{lt-leb, eqb-false, not-true}
 use Rattle.semantics.specs.Cycles.{count_below, count_from}
 use Rattle.semantics.specs.Proposition.{bit}
 use Rattle.semantics.specs.Formula.{Comparison, below, at_most, equal, at_least, above, compared}

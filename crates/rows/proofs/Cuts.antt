@@ -1,10 +1,6 @@
 -- Laws of what a search asks of a row.
-use Prim.Native.Nat.{ℕ, suc, ◌^◌, ◌≤◌, ◌<◌}
-use mathlib.Core.Bool.{Bool, not, ◌&&◌}
-use mathlib.Core.Path.{◌≡◌, sym, ap, ap₂, ◌∙◌}
-use native.Mathlib.Nat.{lt_of_le_of_lt}
-use native.Mathlib.Omega.{arith}
-use lib.Bits.{bit_and, and_le_l}
+use Rattle.std.proofs.Common.{ℕ, suc, ◌^◌, ◌≤◌, ◌<◌, Bool, not, ◌&&◌, ◌≡◌, sym, ap, ap₂, ◌∙◌, lt_of_le_of_lt, arith, bit_and}
+use lib.Bits.{and_le_l}
 use Rattle.semantics.specs.Cycles.{some_below, some_from}
 use Rattle.semantics.specs.Proposition.{bit}
 use Rattle.rows.specs.Row.{word, row, shortest_of}

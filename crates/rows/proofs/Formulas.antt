@@ -1,9 +1,5 @@
 -- The rows that the code makes are the rows of the formulas, as document 01 means them: one law a formula.
-use Prim.Native.Nat.{ℕ, suc, ◌+◌, ◌-◌, ◌≤◌, ◌<◌}
-use mathlib.Core.Bool.{◌&&◌}
-use mathlib.Core.Path.{◌≡◌, refl}
-use native.Mathlib.Omega.{arith}
-use lib.Dec.{leb, eqb}
+use Rattle.std.proofs.Common.{ℕ, suc, ◌+◌, ◌-◌, ◌≤◌, ◌<◌, ◌&&◌, ◌≡◌, refl, arith, leb, eqb, bit_and, bit_or}
 use Rattle.semantics.specs.Cycles.{some_in, every_from, every_in, count_from, count_in}
 use Rattle.semantics.specs.Proposition.{Proposition, Trace, Marks, bit, signal_at, holds_at}
 use Rattle.semantics.specs.Formula.{Formula, point, stretch, whole, unit, chop, star, slen, scount, sdur, drawn, at, gap, conjunction, disjunction, holds, Comparison, compared, Symbol, drawn_on}
@@ -11,7 +7,6 @@ use Rattle.rows.specs.Row.{row, joined, starred}
 use Rattle.rows.proofs.Columns.{Column, held_of, point_of, unit_of, counted_of, drawn_of, gap_of, marked_of}
 use Rattle.rows.proofs.Joins.{chop_row, star_row}
 use Rattle.rows.proofs.Rows.{row_and, row_or}
-use lib.Bits.{bit_and, bit_or}
 
 module _ (n : ℕ) (small : n ≤ 64) (σ : Trace) (μ : Marks) (b : ℕ) (lb : b < n) where
   pub point_holds : (c : ℕ) (p : Proposition) → Column n c (holds_at p σ μ) → row n (λ b e. bit c b) b ≡ row n (holds (point p) σ μ) b

@@ -1,12 +1,6 @@
 -- Laws of the rows of gaps.
-use Prim.Native.Nat.{ℕ, suc, ◌-◌, ◌^◌, ◌≤◌, ◌<◌}
-use mathlib.Core.Bool.{Bool, not, ◌&&◌}
-use mathlib.Core.Path.{◌≡◌, sym, ap, ◌∙◌}
-use native.Mathlib.Nat.{lt_of_le_of_lt}
-use native.Mathlib.Omega.{arith}
-use lib.Dec.{leb, ltb}
-use lib.Bits.{bit_and, and_le_l}
-use borrow.Author.Tests.{leb-true, le-leb}
+use Rattle.std.proofs.Common.{ℕ, suc, ◌-◌, ◌^◌, ◌≤◌, ◌<◌, Bool, not, ◌&&◌, ◌≡◌, sym, ap, ◌∙◌, lt_of_le_of_lt, arith, leb, ltb, bit_and, leb-true, le-leb}
+use lib.Bits.{and_le_l}
 use Rattle.semantics.specs.Cycles.{some_below, some_in}
 use Rattle.semantics.specs.Proposition.{bit}
 use Rattle.rows.specs.Row.{word, row, always, joined, shifted}

@@ -1,18 +1,10 @@
 -- Laws of joins: chop and star by rows.
-use Prim.Native.Nat.{ℕ, suc, ◌+◌, ◌-◌, ◌^◌, ◌≤◌, ◌<◌}
-use mathlib.Core.Bool.{Bool, true, not, cond, ◌&&◌, ◌||◌}
-use mathlib.Core.Logic.{inl, inr}
-use mathlib.Core.Path.{◌≡◌, sym, ap, ap₂, subst, ◌∙◌}
-use native.Mathlib.Numerals.{add-one}
-use native.Mathlib.Omega.{arith}
-use lib.Dec.{leb, ltb, eqb}
-use lib.Bits.{bit_and, bit_or, bit_xor, and_le_r, or_lt, or_zero_r}
+use Rattle.std.proofs.Common.{ℕ, suc, ◌+◌, ◌-◌, ◌^◌, ◌≤◌, ◌<◌, Bool, true, not, cond, ◌&&◌, ◌||◌, inl, inr, ◌≡◌, sym, ap, ap₂, subst, ◌∙◌, add-one, arith, leb, ltb, eqb, bit_and, bit_or, bit_xor, ltb-true, lt-ltb, eqb-true, Some}
+use lib.Bits.{and_le_r, or_lt, or_zero_r}
 use lib.Count.{count_trailing_zeros}
-use borrow.Author.Tests.{ltb-true, lt-ltb, eqb-true}
 use Rattle.semantics.specs.Cycles.{some_below, some_in}
 use Rattle.semantics.specs.Proposition.{bit}
 use Rattle.semantics.specs.Formula.{chain}
-use Rattle.std.proofs.Common.{Some}
 use Rattle.rows.specs.declared.cycles.Cycles.{Cycles}
 use Rattle.rows.specs.Least.{GivesLeast}
 use Rattle.rows.specs.Row.{word, row, joined, starred}

@@ -1,16 +1,10 @@
 -- Laws of the leaves: words from cycles, the least cycle of a set, single bits.
-use Prim.Native.Nat.{ℕ, suc, ◌+◌, ◌-◌, ◌*◌, ◌/◌, ◌%◌, ◌^◌, ◌≤◌, ◌<◌}
-use mathlib.Core.Bool.{Bool, true, not, ◌&&◌}
-use mathlib.Core.Logic.{inl, inr}
-use mathlib.Core.Path.{◌≡◌, sym, ap, ap₂, ◌∙◌}
-use native.Mathlib.Nat.{lt_of_le_of_lt, mod-eq_of_lt, mod-lt, one-mul}
-use native.Mathlib.Numerals.{add-one}
-use native.Mathlib.Omega.{arith}
-use lib.Dec.{leb, ltb, eqb, leb-suc-suc}
-use lib.Pow.{pow_pos, pow-lt}
-use lib.Bits.{bit_and, and_le_l, and_mask}
+use Rattle.std.proofs.Common.{ℕ, suc, ◌+◌, ◌-◌, ◌*◌, ◌/◌, ◌%◌, ◌^◌, ◌≤◌, ◌<◌, Bool, true, not, ◌&&◌, inl, inr, ◌≡◌, sym, ap, ap₂, ◌∙◌, lt_of_le_of_lt, mod-eq_of_lt, mod-lt, one-mul, add-one, arith, leb, ltb, eqb, pow_pos, bit_and, ltb-true, ltb-false, leb-true, leb-false, le-ltb, le-leb, eq-eqb, eqb-true}
+use lib.Dec.{leb-suc-suc}
+use lib.Pow.{pow-lt}
+use lib.Bits.{and_le_l, and_mask}
 use lib.Count.{count_trailing_zeros, trailing_of_zero}
-use borrow.Author.Tests.{ltb-true, ltb-false, leb-true, leb-false, le-ltb, le-leb, eq-eqb, eqb-true, eqb-false, not-true}
+use borrow.Author.Tests.{eqb-false, not-true}
 use Rattle.semantics.specs.Cycles.{some_below}
 use Rattle.semantics.specs.Proposition.{bit}
 use Rattle.rows.specs.Row.{word, row, always}

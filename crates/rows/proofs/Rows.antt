@@ -1,14 +1,7 @@
 -- Laws of words and rows.
-use Prim.Native.Nat.{ℕ, zero, suc, ◌+◌, ◌-◌, ◌^◌, ◌≤◌, ◌<◌}
-use mathlib.Core.Bool.{Bool, true, false, not, cond, ◌&&◌, ◌||◌}
-use mathlib.Core.Logic.{inl, inr}
-use mathlib.Core.Path.{◌≡◌, refl, sym, ap, ap₂, ◌∙◌}
-use native.Mathlib.Nat.{lt_of_lt_of_le, lt_of_le_of_lt, pow-suc}
-use native.Mathlib.Omega.{arith}
-use lib.Dec.{leb, ltb, eqb}
-use lib.Pow.{pow_pos, pow_mono}
-use lib.Bits.{bit_and, bit_or, and_le_l, and_lt, or_lt}
-use borrow.Author.Tests.{ltb-true, ltb-false, leb-true, lt-ltb, le-leb, eqb-true, eqb-false}
+use Rattle.std.proofs.Common.{ℕ, zero, suc, ◌+◌, ◌-◌, ◌^◌, ◌≤◌, ◌<◌, Bool, true, false, not, cond, ◌&&◌, ◌||◌, inl, inr, ◌≡◌, refl, sym, ap, ap₂, ◌∙◌, lt_of_lt_of_le, lt_of_le_of_lt, pow-suc, arith, leb, ltb, eqb, pow_pos, pow_mono, bit_and, bit_or, ltb-true, ltb-false, leb-true, lt-ltb, le-leb, eqb-true}
+use lib.Bits.{and_le_l, and_lt, or_lt}
+use borrow.Author.Tests.{eqb-false}
 use Rattle.semantics.specs.Proposition.{bit}
 use Rattle.rows.specs.Row.{word, row, always}
 use Rattle.semantics.proofs.Tests.{same, test, false_not, both, and_left, and_right, or_left, or_right, or_elim}

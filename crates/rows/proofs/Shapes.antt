@@ -1,12 +1,6 @@
 -- Laws of the rows of formulas over one column.
-use Prim.Native.Nat.{ℕ, ◌+◌, ◌-◌, ◌*◌, ◌%◌, ◌^◌, ◌≤◌, ◌<◌}
-use mathlib.Core.Bool.{Bool, true, false, not, ◌&&◌, ◌||◌}
-use mathlib.Core.Path.{◌≡◌, sym, ap, ◌∙◌}
-use native.Mathlib.Nat.{lt_of_le_of_lt}
-use native.Mathlib.Omega.{arith}
-use lib.Dec.{leb, ltb, eqb}
-use lib.Bits.{bit_and, bit_or, and_le_l}
-use borrow.Author.Tests.{leb-true, le-leb, eq-eqb, eqb-true}
+use Rattle.std.proofs.Common.{ℕ, ◌+◌, ◌-◌, ◌*◌, ◌%◌, ◌^◌, ◌≤◌, ◌<◌, Bool, true, false, not, ◌&&◌, ◌||◌, ◌≡◌, sym, ap, ◌∙◌, lt_of_le_of_lt, arith, leb, ltb, eqb, bit_and, bit_or, leb-true, le-leb, eq-eqb, eqb-true}
+use lib.Bits.{and_le_l}
 use Rattle.semantics.specs.Cycles.{some_below, some_from, every_from}
 use Rattle.semantics.specs.Proposition.{bit}
 use Rattle.semantics.specs.Formula.{low, either, low_stretch, steady, drawn_on}

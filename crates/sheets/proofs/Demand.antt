@@ -1,10 +1,5 @@
 -- Demand 3: what the contracts of translate and check ensure of their results gives the joint claim.
-use Prim.Native.Nat.{ℕ, ◌<◌}
-use native.Mathlib.Omega.{arith}
-use mathlib.Core.Bool.{not}
-use mathlib.Core.List.{List}
-use mathlib.Core.Path.{◌≡◌, refl, sym, ap, ◌∙◌}
-use lib.ListN.{length, take}
+use Rattle.std.proofs.Common.{ℕ, ◌<◌, arith, not, List, ◌≡◌, refl, sym, ap, ◌∙◌, length, take, Result, Ok}
 use Rattle.semantics.specs.Proposition.{Trace}
 use Rattle.semantics.specs.Clause.{Clause}
 use Rattle.semantics.specs.Verdict as semantics
@@ -16,7 +11,6 @@ use Rattle.traces.specs.Trace.{cycles_of, trace_refusal}
 use Rattle.stored.specs.Emitted.{emitted_true}
 use Rattle.stored.specs.Tree.{pick}
 use Rattle.traces.proofs.Accepted.{trace_opened, cycles_count}
-use Rattle.std.specs.Prelude.{Result, Ok}
 use Rattle.stored.specs.declared.refusal.Refusal.{Refusal}
 use Rattle.stored.specs.Refusal.{answered}
 use Rattle.checker.specs.declared.check.Verdict.{Verdict}

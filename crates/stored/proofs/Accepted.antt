@@ -1,14 +1,7 @@
 -- What acceptance says, opened into one record, and what crates above need of an accepted sheet.
-use Prim.Native.Nat.{ℕ, zero, suc, ◌*◌, ◌^◌, ◌≤◌, ◌<◌}
-use mathlib.Core.Bool.{Bool, true, false, ◌&&◌, false≢true}
-use mathlib.Core.List.{List}
-use mathlib.Core.Logic.{inl, inr}
-use mathlib.Core.Path.{◌≡◌, refl, sym, subst}
+use Rattle.std.proofs.Common.{ℕ, zero, suc, ◌*◌, ◌^◌, ◌≤◌, ◌<◌, Bool, true, false, ◌&&◌, List, inl, inr, ◌≡◌, refl, sym, subst, arith, ltb-true, leb-true, eqb-true, leb, ltb, eqb, length, length-take, length-drop, Ok, Err}
+use mathlib.Core.Bool.{false≢true}
 use native.Mathlib.Nat.{pow-le-pow_right}
-use native.Mathlib.Omega.{arith}
-use borrow.Author.Tests.{ltb-true, leb-true, eqb-true}
-use lib.Dec.{leb, ltb, eqb}
-use lib.ListN.{length, length-take, length-drop}
 use Rattle.stored.specs.Layout.{clauses_end, node_size, clause_size}
 use Rattle.semantics.specs.Proposition.{bit}
 use Rattle.semantics.specs.Clause.{Part, Clause}
@@ -21,7 +14,6 @@ use Rattle.stored.specs.Bytes.{in_order}
 use Rattle.stored.specs.Node.{requirement_sorts, is_formula_node, node_right, formula}
 use Rattle.stored.specs.Tree.{formula_at, pick}
 use Rattle.stored.specs.Refusal.{number_of}
-use Rattle.std.specs.Prelude.{Ok, Err}
 use Rattle.stored.specs.Clause.{last_role, parts_used, part_right, clause_right, part_named, clause_named, clause_right_at, clause_named_at, type_of, part_of, clause_of}
 use Rattle.stored.specs.Sheet.{header_of, node_part, clause_part, nodes_of, stored_of, counted, sized, nodes_right, operands_found, clauses_right, clauses_named, sheet_rules, sheet_refusal, sheet_answer, clause_in, clauses_of}
 use Rattle.semantics.proofs.Tests.{and_left, and_right, and_intro}

@@ -1,16 +1,9 @@
 -- The order of the refusals, and rule 9 by reach masks.
-use Prim.Native.Nat.{ℕ, ◌^◌, ◌≤◌}
-use mathlib.Core.Bool.{Bool, true, false, ◌&&◌}
-use mathlib.Core.List.{List}
-use mathlib.Core.Path.{◌≡◌, refl, sym, ◌∙◌, ap, ap₂}
-use borrow.Author.Tests.{ltb-true, leb-true}
-use lib.Dec.{leb, ltb, eqb}
-use lib.ListN.{length}
+use Rattle.std.proofs.Common.{ℕ, ◌^◌, ◌≤◌, Bool, true, false, ◌&&◌, List, ◌≡◌, refl, sym, ◌∙◌, ap, ap₂, ltb-true, leb-true, leb, ltb, eqb, length, Ok, Err}
 use Rattle.semantics.specs.Proposition.{bit}
 use Rattle.semantics.specs.Reach.{within}
 use Rattle.stored.specs.declared.Node.{Node}
 use Rattle.stored.specs.declared.StoredClause.{StoredClause}
-use Rattle.std.specs.Prelude.{Ok, Err}
 use Rattle.stored.specs.declared.refusal.Refusal.TheVariants.{SheetNotFramed, UnknownSheetVersion, NotARequirement, CountOutOfRange, WrongSheetLength, InvalidNode, InvalidOperand, InvalidClause, UnlistedName}
 use Rattle.stored.specs.Bytes.{framed_from, every_below, lowest}
 use Rattle.stored.specs.Node.{formula, requirement_sorts, is_formula_node, node_right}

@@ -1,8 +1,5 @@
 -- The form of a kind 2 sheet, opened into one record and made from it.
-use Prim.Native.Nat.{ℕ}
-use mathlib.Core.Bool.{true}
-use mathlib.Core.List.{List}
-use mathlib.Core.Path.{◌≡◌}
+use Rattle.std.proofs.Common.{ℕ, true, List, ◌≡◌}
 use Rattle.semantics.specs.Placement.{no_names}
 use Rattle.semantics.specs.Reach.{within}
 use Rattle.stored.specs.Node.{emitted_sorts, is_formula_node}

@@ -1,14 +1,7 @@
 -- Tables of numbers that are filled entry by entry; an entry that is not filled yet is 0.
-use Prim.Native.Nat.{ℕ, zero, suc, ◌+◌, ◌<◌}
-use mathlib.Core.List.{List}
-use mathlib.Core.Logic.{inl, inr}
-use mathlib.Core.Path.{◌≡◌, refl, sym, ◌∙◌, subst}
-use native.Mathlib.Omega.{arith}
-use borrow.Author.Tests.{eqb-true, eqb-false}
+use Rattle.std.proofs.Common.{ℕ, zero, suc, ◌+◌, ◌<◌, List, inl, inr, ◌≡◌, refl, sym, ◌∙◌, subst, arith, eqb-true, eqb, length, get_or, set, replicate, get_or-set_same, get_or-set_other, ext_get_or}
+use borrow.Author.Tests.{eqb-false}
 use denote.Param.Members.{Mut}
-use lib.Dec.{eqb}
-use lib.ListN.{length, get_or, set, replicate}
-use lib.Seq.{get_or-set_same, get_or-set_other, ext_get_or}
 use Rattle.std.specs.Array.{IsFromFnResultFrom, IsFromFnResult}
 use Rattle.std.specs.Fn.{Called}
 use Rattle.semantics.proofs.Tests.{test}

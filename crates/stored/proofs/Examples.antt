@@ -1,8 +1,5 @@
 -- Document 01's example sheet, and sheets that are refused.
-use Prim.Native.Nat.{ℕ}
-use mathlib.Core.List.{List, [], ◌∷◌}
-use mathlib.Core.Path.{◌≡◌, refl}
-use lib.ListN.{set}
+use Rattle.std.proofs.Common.{ℕ, List, [], ◌∷◌, ◌≡◌, refl, set}
 use Rattle.semantics.specs.Proposition.{signal, bit}
 use Rattle.semantics.specs.Formula.{point}
 use Rattle.semantics.specs.Reach.{within, proposition_within}

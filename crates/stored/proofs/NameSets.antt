@@ -1,11 +1,6 @@
 -- Masks as sets of names: bit u is name u.
-use Prim.Native.Nat.{ℕ, ◌-◌, ◌^◌, ◌<◌}
-use mathlib.Core.Bool.{Bool, not, ◌&&◌}
-use mathlib.Core.Logic.{inl, inr}
-use mathlib.Core.Path.{◌≡◌, sym, ap, fun_ext, ◌∙◌}
-use lib.Bits.{bit_and, bit_or}
-use lib.Dec.{ltb}
-use borrow.Author.Tests.{ltb-true, ltb-false}
+use Rattle.std.proofs.Common.{ℕ, ◌-◌, ◌^◌, ◌<◌, Bool, not, ◌&&◌, inl, inr, ◌≡◌, sym, ap, ◌∙◌, bit_and, bit_or, ltb, ltb-true, ltb-false}
+use mathlib.Core.Path.{fun_ext}
 use Rattle.semantics.specs.Proposition.{bit}
 use Rattle.semantics.specs.Placement.{no_names, union, without}
 use Rattle.semantics.proofs.Tests.{test, and_false_left}

@@ -1,8 +1,5 @@
 -- The roles by their numbers are three.
-use Prim.Native.Nat.{ℕ, zero, suc, ◌≤◌}
-use native.Mathlib.Omega.{arith}
-use mathlib.Core.Path.{◌≡◌, refl}
-use lib.Dec.{eqb}
+use Rattle.std.proofs.Common.{ℕ, zero, suc, ◌≤◌, arith, ◌≡◌, refl, eqb}
 use Rattle.semantics.specs.Verdict.{same_role}
 use Rattle.stored.specs.Clause.{last_role, role_of}
 

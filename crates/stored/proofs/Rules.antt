@@ -1,17 +1,8 @@
 -- Laws of rules in a row and of lists in order.
-use Prim.Native.Nat.{ℕ, zero, suc, ◌+◌, ◌*◌, ◌%◌, ◌^◌, ◌≤◌, ◌<◌}
-use mathlib.Core.Bool.{Bool, true, false, not, ◌&&◌, ◌||◌, false≢true}
-use mathlib.Core.List.{List, [], ◌∷◌}
-use mathlib.Core.Logic.{◌⊎◌, inl, inr}
-use mathlib.Core.Path.{◌≡◌, refl, sym, ◌∙◌, ap, ap₂, subst}
-use native.Mathlib.Nat.{one-mul, mod-eq_of_lt}
-use native.Mathlib.Numerals.{add-one}
-use Rattle.std.proofs.Common.{add-zero}
+use Rattle.std.proofs.Common.{ℕ, zero, suc, ◌+◌, ◌*◌, ◌%◌, ◌^◌, ◌≤◌, ◌<◌, Bool, true, false, not, ◌&&◌, ◌||◌, List, [], ◌∷◌, ◌⊎◌, inl, inr, ◌≡◌, refl, sym, ◌∙◌, ap, ap₂, subst, one-mul, mod-eq_of_lt, add-one, add-zero, arith, eqb-true, eqb, ltb, length, get_or}
+use mathlib.Core.Bool.{false≢true}
 use Rattle.std.proofs.Math.Nat.{sub-zero}
-use native.Mathlib.Omega.{arith}
-use borrow.Author.Tests.{eqb-true, eqb-false}
-use lib.Dec.{eqb, ltb}
-use lib.ListN.{length, get_or}
+use borrow.Author.Tests.{eqb-false}
 use lib.Pow.{pow-lt}
 use denote.Param.Members.{Mut}
 use Rattle.std.specs.declared.ops.Range.{Range}

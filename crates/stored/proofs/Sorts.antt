@@ -1,7 +1,6 @@
 -- Whether two sorts are the same.
-use mathlib.Core.Bool.{true, false≢true}
-use mathlib.Core.Path.{◌≡◌, refl, subst}
-use Rattle.std.proofs.Common.{Option, Some, None}
+use Rattle.std.proofs.Common.{true, ◌≡◌, refl, subst, Option, Some, None}
+use mathlib.Core.Bool.{false≢true}
 use Rattle.stored.specs.declared.nodes.Sort.{Sort}
 use Rattle.stored.specs.declared.nodes.Sort.TheVariants.{Proposition, Formula}
 use Rattle.stored.specs.Node.{same_sort}

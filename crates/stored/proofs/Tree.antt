@@ -1,16 +1,11 @@
 -- The tree at a node is the constructor of its op over its operands' trees, and goes by the nodes up to it alone.
-use Prim.Native.Nat.{ℕ, ◌≤◌, ◌<◌}
-use mathlib.Core.Bool.{Bool, true, false, not, ◌||◌, false≢true}
-use mathlib.Core.List.{List, [], ◌∷◌}
-use mathlib.Core.Path.{◌≡◌, refl, sym, ◌∙◌, ap, ap₂, subst, fun_ext}
-use native.Mathlib.Omega.{arith}
-use borrow.Author.Tests.{ltb-true, eqb-true}
-use lib.Dec.{eqb, ltb}
-use lib.ListN.{length, get_or-eq_default}
+use Rattle.std.proofs.Common.{ℕ, ◌≤◌, ◌<◌, Bool, true, false, not, ◌||◌, List, [], ◌∷◌, ◌≡◌, refl, sym, ◌∙◌, ap, ap₂, subst, arith, ltb-true, eqb-true, eqb, ltb, length, Option}
+use mathlib.Core.Bool.{false≢true}
+use mathlib.Core.Path.{fun_ext}
+use lib.ListN.{get_or-eq_default}
 use Rattle.semantics.specs.Proposition.{Proposition, never, both_of, either_of, negated}
 use Rattle.semantics.specs.Formula.{Formula, below, slen, chop, conjunction, disjunction, star, negation, for_some, point, stretch, whole, unit, scount, sdur}
 use Rattle.stored.specs.declared.Node.{Node}
-use Rattle.std.proofs.Common.{Option}
 use Rattle.std.specs.Option.{is_some}
 use Rattle.stored.specs.declared.nodes.Sort.{Sort}
 use Rattle.stored.specs.declared.nodes.Use.{Use}

@@ -1,19 +1,12 @@
 -- On every way from the root of an emitted formula to a name, the name is quantified.
-use Prim.Native.Nat.{ℕ, ◌<◌}
-use mathlib.Core.Bool.{true, false≢true}
-use mathlib.Core.List.{List}
-use mathlib.Core.Logic.{inl, inr}
-use mathlib.Core.Path.{◌≡◌, refl, sym, ◌∙◌, ap, subst}
-use native.Mathlib.Omega.{arith}
-use borrow.Author.Tests.{eqb-true}
-use lib.Dec.{eqb}
+use Rattle.std.proofs.Common.{ℕ, ◌<◌, true, List, inl, inr, ◌≡◌, refl, sym, ◌∙◌, ap, subst, arith, eqb-true, eqb, Option}
+use mathlib.Core.Bool.{false≢true}
 use Rattle.semantics.specs.Proposition.{Proposition}
 use Rattle.semantics.specs.Formula.{Formula}
 use Rattle.semantics.specs.Placement.{Names, no_names}
 use Rattle.semantics.specs.Reach.{proposition_within, with, within}
 use Rattle.semantics.proofs.Tests.{and_left, and_right, or_elim}
 use Rattle.stored.specs.declared.Node.{Node}
-use Rattle.std.proofs.Common.{Option}
 use Rattle.stored.specs.declared.nodes.Sort.{Sort}
 use Rattle.stored.specs.declared.nodes.Use.{Use}
 use Rattle.stored.specs.declared.nodes.Use.TheVariants.{Nothing, Signal, Name, Comparison, Symbol, TwoNames, Number, PropositionNode, FormulaNode}

@@ -1,14 +1,6 @@
 -- What a written node or header leaves behind: it is read back, and everything else stays.
-use Prim.Native.Nat.{ℕ, zero, suc, ◌+◌, ◌-◌, ◌*◌, ◌/◌, ◌%◌, ◌≤◌, ◌<◌}
-use mathlib.Core.List.{List, [], ◌∷◌, ◌++◌}
-use mathlib.Core.Logic.{inl, inr}
-use mathlib.Core.Path.{◌≡◌, refl, sym, ◌∙◌, ap}
-use native.Mathlib.Nat.{div-add-mod'}
-use native.Mathlib.Omega.{arith}
-use borrow.Author.Tests.{ltb-true, ltb-false}
-use lib.Dec.{ltb}
-use lib.ListN.{length, get_or, set, take, drop, length-set}
-use lib.Seq.{sets, sets-eq, take_at, length-sets, get_or-set_same, get_or-set_other, get_or-drop, get_or-take, drop-set-lt}
+use Rattle.std.proofs.Common.{ℕ, zero, suc, ◌+◌, ◌-◌, ◌*◌, ◌/◌, ◌%◌, ◌≤◌, ◌<◌, List, [], ◌∷◌, ◌++◌, inl, inr, ◌≡◌, refl, sym, ◌∙◌, ap, div-add-mod', arith, ltb-true, ltb-false, ltb, length, get_or, set, take, drop, length-set, take_at, get_or-set_same, get_or-set_other, get_or-drop, get_or-take, drop-set-lt}
+use lib.Seq.{sets, sets-eq, length-sets}
 use Rattle.stored.specs.declared.Node.{Node}
 use Rattle.stored.specs.Bytes.{word}
 use Rattle.stored.specs.Node.{node_at}

@@ -1,15 +1,5 @@
 -- Laws of columns: what a node's column is, and the columns of names that stand on cycles.
-use Prim.Native.Nat.{ℕ, zero, suc, ◌+◌, ◌-◌, ◌^◌, ◌≤◌, ◌<◌}
-use mathlib.Core.Bool.{Bool, true, ◌&&◌}
-use mathlib.Core.List.{List}
-use mathlib.Core.Logic.{◌⊎◌, inl, inr}
-use mathlib.Core.Path.{◌≡◌, refl, sym, ◌∙◌, ap, ap₂, subst}
-use native.Mathlib.Omega.{arith}
-use borrow.Author.Tests.{eqb-true, ltb-true, ltb-false, lt-ltb}
-use lib.Bits.{bit_or}
-use lib.Dec.{ltb, eqb}
-use lib.ListN.{length, get_or, length-set}
-use lib.Seq.{get_or-set_same, get_or-set_other}
+use Rattle.std.proofs.Common.{ℕ, zero, suc, ◌+◌, ◌-◌, ◌^◌, ◌≤◌, ◌<◌, Bool, true, ◌&&◌, List, ◌⊎◌, inl, inr, ◌≡◌, refl, sym, ◌∙◌, ap, ap₂, subst, arith, eqb-true, ltb-true, ltb-false, lt-ltb, bit_or, ltb, eqb, length, get_or, length-set, get_or-set_same, get_or-set_other}
 use Rattle.semantics.specs.Proposition.{Trace, Marks, bit, signal_at}
 use Rattle.semantics.specs.Placement.{marks}
 use Rattle.semantics.proofs.Tests.{test, and_false_right}

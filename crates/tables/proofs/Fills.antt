@@ -1,15 +1,6 @@
 -- Laws of fills: the words of one node, of the nodes passed so far, and of the nodes that a moved name does not reach.
-use Prim.Native.Nat.{ℕ, zero, suc, ◌+◌, ◌-◌, ◌*◌, ◌^◌, ◌≤◌, ◌<◌}
-use mathlib.Core.Bool.{true}
-use mathlib.Core.List.{List, ◌++◌}
-use mathlib.Core.Logic.{inl, inr}
-use mathlib.Core.Path.{◌≡◌, refl, sym, ◌∙◌, ap, ap₂, subst}
-use native.Mathlib.Omega.{arith}
-use borrow.Author.Tests.{leb-true, eqb-true, eqb-false}
-use lib.Bits.{bit_and, bit_or}
-use lib.Dec.{leb, ltb, eqb}
-use lib.ListN.{length, get_or, set, take, drop}
-use lib.Seq.{get_or-take, get_or-set_same, get_or-set_other}
+use Rattle.std.proofs.Common.{ℕ, zero, suc, ◌+◌, ◌-◌, ◌*◌, ◌^◌, ◌≤◌, ◌<◌, true, List, ◌++◌, inl, inr, ◌≡◌, refl, sym, ◌∙◌, ap, ap₂, subst, arith, leb-true, eqb-true, bit_and, bit_or, leb, ltb, eqb, length, get_or, set, take, drop, get_or-take, get_or-set_same, get_or-set_other}
+use borrow.Author.Tests.{eqb-false}
 use Rattle.semantics.specs.Proposition.{Proposition, Trace, Marks, bit, holds_at}
 use Rattle.semantics.specs.Formula.{Formula, star, holds}
 use Rattle.semantics.proofs.Tests.{test, and_right}

@@ -1,11 +1,5 @@
 -- What a fill makes of a node from right words of its operands is the node's table.
-use Prim.Native.Nat.{ℕ, ◌-◌, ◌/◌, ◌%◌, ◌^◌, ◌≤◌, ◌<◌}
-use mathlib.Core.Bool.{Bool, true, false}
-use mathlib.Core.List.{List}
-use mathlib.Core.Path.{◌≡◌, refl, sym, ◌∙◌, ap, ap₂}
-use lib.Bits.{bit_and, bit_or}
-use lib.Dec.{ltb}
-use lib.Pow.{pow_pos}
+use Rattle.std.proofs.Common.{ℕ, ◌-◌, ◌/◌, ◌%◌, ◌^◌, ◌≤◌, ◌<◌, Bool, true, false, List, ◌≡◌, refl, sym, ◌∙◌, ap, ap₂, bit_and, bit_or, ltb, pow_pos}
 use Rattle.semantics.specs.Proposition.{Proposition, Trace, Marks, bit, signal_at, holds_at}
 use Rattle.semantics.specs.Formula.{Formula, holds}
 use Rattle.semantics.proofs.Tests.{and_true_right}

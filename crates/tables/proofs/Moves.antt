@@ -1,13 +1,6 @@
 -- A node that reaches none of the moved names keeps its table.
-use Prim.Native.Nat.{ℕ, ◌+◌, ◌≤◌, ◌<◌}
-use mathlib.Core.Bool.{Bool, true, false, not, cond, ◌&&◌, ◌||◌, true≢false}
-use mathlib.Core.List.{List}
-use mathlib.Core.Path.{◌≡◌, refl, sym, ◌∙◌, ap, subst}
-use native.Mathlib.Omega.{arith}
-use borrow.Author.Tests.{eqb-true, ltb-true}
-use lib.Bits.{bit_and, bit_or}
-use lib.Dec.{ltb, eqb}
-use lib.ListN.{length, get_or, replicate, get_or-replicate}
+use Rattle.std.proofs.Common.{ℕ, ◌+◌, ◌≤◌, ◌<◌, Bool, true, false, not, cond, ◌&&◌, ◌||◌, true≢false, List, ◌≡◌, refl, sym, ◌∙◌, ap, subst, arith, eqb-true, ltb-true, bit_and, bit_or, ltb, eqb, length, get_or, replicate}
+use lib.ListN.{get_or-replicate}
 use Rattle.semantics.specs.Proposition.{Trace, Marks, bit}
 use Rattle.semantics.specs.Formula.{holds}
 use Rattle.semantics.specs.Placement.{Names, marks}

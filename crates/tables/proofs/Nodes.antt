@@ -1,16 +1,7 @@
 -- What rules 6 and 7 say of one node.
-use Rattle.std.proofs.Common.{Option}
+use Rattle.std.proofs.Common.{Option, ℕ, ◌/◌, ◌%◌, ◌<◌, ◌+◌, ◌*◌, true≢false, true, List, ◌≡◌, sym, ap, subst, ◌∙◌, arith, ltb-true, ltb, length, take, length-take-le}
 use Rattle.stored.specs.declared.nodes.Sort.{Sort}
 use Rattle.std.specs.Option.{is_some}
-use Prim.Native.Nat.{ℕ, ◌/◌, ◌%◌, ◌<◌, ◌+◌, ◌*◌}
-use mathlib.Core.Bool.{true≢false, true}
-use mathlib.Core.List.{List}
-use mathlib.Core.Path.{◌≡◌, sym, ap, subst, ◌∙◌}
-use native.Mathlib.Omega.{arith}
-use borrow.Author.Tests.{ltb-true}
-use lib.Dec.{ltb}
-use lib.ListN.{length, take}
-use lib.Seq.{length-take-le}
 use Rattle.stored.specs.declared.Node.{Node}
 use Rattle.stored.specs.declared.nodes.Use.{Use}
 use Rattle.stored.specs.declared.nodes.Use.TheVariants.{Signal, Name, Comparison, Symbol, TwoNames}

@@ -1,11 +1,5 @@
 -- Laws of rows in the words.
-use Prim.Native.Nat.{ℕ, ◌+◌, ◌-◌, ◌*◌, ◌<◌}
-use mathlib.Core.Bool.{true, ◌&&◌}
-use mathlib.Core.List.{List}
-use mathlib.Core.Path.{◌≡◌, sym, ◌∙◌, ap}
-use native.Mathlib.Omega.{arith}
-use lib.ListN.{get_or, take, drop}
-use lib.Seq.{get_or-take, get_or-drop}
+use Rattle.std.proofs.Common.{ℕ, ◌+◌, ◌-◌, ◌*◌, ◌<◌, true, ◌&&◌, List, ◌≡◌, sym, ◌∙◌, ap, arith, get_or, take, drop, get_or-take, get_or-drop}
 use Rattle.semantics.specs.Cycles.{some_below}
 use Rattle.semantics.specs.Proposition.{bit}
 use Rattle.semantics.proofs.Cycles.{below_cong, and_cong}

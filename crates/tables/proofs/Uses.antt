@@ -2,15 +2,8 @@
 use Rattle.stored.proofs.Sorts.{sort_same}
 use Rattle.stored.specs.declared.nodes.Sort.TheVariants.{Proposition, Formula}
 use Rattle.stored.specs.declared.nodes.Sort.{Sort}
-use Rattle.std.proofs.Common.{Option, Some, None}
-use Prim.Native.Nat.{ℕ, ◌≤◌, ◌<◌}
-use mathlib.Core.Bool.{Bool, true, false, not, ◌&&◌, ◌||◌}
-use mathlib.Core.List.{List}
-use mathlib.Core.Logic.{inl, inr}
-use mathlib.Core.Path.{◌≡◌, refl, sym, ap, subst, ◌∙◌}
-use native.Mathlib.Omega.{arith}
-use borrow.Author.Tests.{ltb-true, ltb-false, leb-true, eqb-true, eqb-false, le-leb, lt-ltb}
-use lib.Dec.{leb, ltb, eqb}
+use Rattle.std.proofs.Common.{Option, Some, None, ℕ, ◌≤◌, ◌<◌, Bool, true, false, not, ◌&&◌, ◌||◌, List, inl, inr, ◌≡◌, refl, sym, ap, subst, ◌∙◌, arith, ltb-true, ltb-false, leb-true, eqb-true, le-leb, lt-ltb, leb, ltb, eqb}
+use borrow.Author.Tests.{eqb-false}
 use lib.ListN.{get_or-eq_default}
 use Rattle.stored.specs.declared.Node.{Node}
 use Rattle.stored.specs.declared.nodes.Use.TheVariants.{Comparison, FormulaNode}

@@ -1,12 +1,6 @@
 -- Laws of reading lines: the word of a role, a line, lines to the end of the text, and the whole text.
-use Prim.Native.Nat.{ℕ, zero, suc, ◌≤◌}
-use mathlib.Core.Bool.{Bool, true, false, true≢false}
-use mathlib.Core.List.{List, [], ◌∷◌, ◌++◌}
-use mathlib.Core.Logic.{inl, inr}
+use Rattle.std.proofs.Common.{ℕ, zero, suc, ◌≤◌, Bool, true, false, true≢false, List, [], ◌∷◌, ◌++◌, inl, inr, ◌≡◌, refl, sym, ap, ◌∙◌, arith, length}
 use mathlib.Core.Option.{none}
-use mathlib.Core.Path.{◌≡◌, refl, sym, ap, ◌∙◌}
-use native.Mathlib.Omega.{arith}
-use lib.ListN.{length}
 use Rattle.semantics.proofs.Tests.{test}
 use Rattle.grammar.specs.Token.{Token, plain, signalled, named, number, outside, line_end, tokens}
 use Rattle.grammar.specs.Tree.{TypedClause, Line, assume_l, require_l}

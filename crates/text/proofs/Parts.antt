@@ -1,13 +1,5 @@
 -- Laws of reading names and parts.
-use Prim.Native.Nat.{ℕ, ◌≤◌, ◌<◌}
-use mathlib.Core.Bool.{Bool, true, false, cond}
-use mathlib.Core.List.{List, [], ◌∷◌, ◌++◌}
-use mathlib.Core.Logic.{inr}
-use mathlib.Core.Path.{◌≡◌, refl, sym, ap, ◌∙◌}
-use native.Mathlib.Omega.{arith}
-use borrow.Author.Tests.{lt-ltb}
-use lib.Dec.{ltb}
-use lib.ListN.{length}
+use Rattle.std.proofs.Common.{ℕ, ◌≤◌, ◌<◌, Bool, true, false, cond, List, [], ◌∷◌, ◌++◌, inr, ◌≡◌, refl, sym, ap, ◌∙◌, arith, lt-ltb, ltb, length}
 use Rattle.semantics.specs.Proposition.{bit}
 use Rattle.semantics.proofs.Tests.{and_intro, and_left, and_right}
 use Rattle.stored.specs.Reach.{joint, name_mask}

@@ -1,20 +1,11 @@
 -- Laws of reading a whole text: the order of refusals, that one case applies to each text, and that what is written means what the text means.
-use Prim.Native.Nat.{ℕ, ◌-◌, ◌≤◌, ◌<◌}
-use mathlib.Core.Bool.{Bool, true, false, true≢false, cond, ◌||◌}
-use mathlib.Core.List.{List}
-use mathlib.Core.Logic.{◌⊎◌, inl, inr}
-use mathlib.Core.Option.{Option, none, some}
-use mathlib.Core.Path.{◌≡◌, refl, sym, ap, ap₂, ◌∙◌}
-use native.Mathlib.Omega.{arith}
-use borrow.Author.Tests.{eqb-true, eqb-false, eq-eqb, ltb-false, lt-ltb, le-ltb}
-use lib.Dec.{eqb, ltb}
-use lib.ListN.{length, take, drop, replicate, length-append, length-drop}
-use lib.Seq.{drop_at}
+use Rattle.std.proofs.Common.{ℕ, ◌-◌, ◌≤◌, ◌<◌, Bool, true, false, true≢false, cond, ◌||◌, List, ◌⊎◌, inl, inr, Option, ◌≡◌, refl, sym, ap, ap₂, ◌∙◌, arith, eqb-true, eq-eqb, ltb-false, lt-ltb, le-ltb, eqb, ltb, length, take, drop, replicate, length-append, length-drop, drop_at, Result, Ok, Err}
+use mathlib.Core.Option.{none, some}
+use borrow.Author.Tests.{eqb-false}
 use Rattle.semantics.specs.Proposition.{Trace}
 use Rattle.semantics.specs.Clause.{Part}
 use Rattle.semantics.specs.Verdict.{requirement, verdict}
 use Rattle.semantics.proofs.Tests.{test}
-use Rattle.std.specs.Prelude.{Result, Ok, Err}
 use Rattle.stored.specs.declared.Header.{Header}
 use Rattle.stored.specs.declared.refusal.Refusal.{Refusal}
 use Rattle.stored.specs.declared.refusal.Refusal.TheVariants.{ShortOutput, TooDeep, OutsideGrammar, TooLarge}

@@ -1,13 +1,8 @@
 -- The order of a trace's refusals.
-use Prim.Native.Nat.{ℕ, ◌≤◌}
-use mathlib.Core.Bool.{true, false}
-use mathlib.Core.List.{List}
-use mathlib.Core.Path.{◌≡◌}
-use lib.ListN.{length}
+use Rattle.std.proofs.Common.{ℕ, ◌≤◌, true, false, List, ◌≡◌, length, Ok, Err}
 use Rattle.stored.specs.Bytes.{lowest}
 use Rattle.stored.specs.Tree.{pick}
 use Rattle.stored.proofs.Answer.{framed_from_lem}
-use Rattle.std.specs.Prelude.{Ok, Err}
 use Rattle.stored.specs.declared.refusal.Refusal.TheVariants.{TraceNotFramed, UnknownTraceVersion, OtherSignals, InvalidCycles}
 use Rattle.stored.specs.Refusal.{refusals, refusal_numbered, answered}
 use Rattle.traces.specs.Trace.{cycle_count, trace_framed, trace_versioned, same_signals, cycles_right, trace_rules, trace_refusal, trace_answer}

@@ -1,16 +1,6 @@
 -- Laws of columns: those of a stored trace tell its cycles.
-use Prim.Native.Nat.{ℕ, ◌+◌, ◌≤◌, ◌<◌}
-use mathlib.Core.Bool.{true, false}
-use mathlib.Core.List.{List}
-use mathlib.Core.Logic.{inl, inr}
-use mathlib.Core.Path.{◌≡◌, refl, sym, ◌∙◌, ap}
-use native.Mathlib.Omega.{arith}
-use borrow.Author.Tests.{ltb-true, ltb-false}
-use lib.Bits.{bit_or}
-use lib.Dec.{ltb, eqb}
-use lib.ListN.{length, get_or-eq_default}
-use lib.Pow.{pow_pos}
-use lib.Seq.{ext_get_or}
+use Rattle.std.proofs.Common.{ℕ, ◌+◌, ◌≤◌, ◌<◌, true, false, List, inl, inr, ◌≡◌, refl, sym, ◌∙◌, ap, arith, ltb-true, ltb-false, bit_or, ltb, eqb, length, pow_pos, ext_get_or}
+use lib.ListN.{get_or-eq_default}
 use Rattle.semantics.specs.Proposition.{bit, signal_at}
 use Rattle.semantics.proofs.Tests.{test}
 use Rattle.rows.specs.Row.{word}

@@ -1,8 +1,5 @@
 -- Document 01's example trace, and one that is refused.
-use Prim.Native.Nat.{ℕ}
-use mathlib.Core.List.{List, [], ◌∷◌}
-use mathlib.Core.Path.{◌≡◌, refl}
-use lib.ListN.{set}
+use Rattle.std.proofs.Common.{ℕ, List, [], ◌∷◌, ◌≡◌, refl, set}
 use Rattle.stored.specs.Bytes.{word, framed_from, every_below, in_order, lowest}
 use Rattle.traces.specs.Trace.{cycle_count, cycle_at, trace_framed, trace_versioned, same_signals, cycle_right, cycles_right, trace_rules, trace_refusal, cycles_of}
 

@@ -1,13 +1,6 @@
 -- The stored trace of cycles is accepted, and its cycles are these.
-use Prim.Native.Nat.{ℕ, zero, suc, ◌+◌, ◌*◌, ◌/◌, ◌%◌, ◌^◌, ◌≤◌, ◌<◌}
-use mathlib.Core.Bool.{true, ◌&&◌}
-use mathlib.Core.List.{List, [], ◌∷◌, ◌++◌}
-use mathlib.Core.Path.{◌≡◌, refl, sym, ◌∙◌, ap, ap₂}
-use native.Mathlib.Omega.{arith}
-use borrow.Author.Tests.{lt-ltb, le-leb, eq-eqb}
-use lib.Dec.{leb, eqb}
-use lib.ListN.{length, get_or, set, take}
-use lib.Seq.{sets, length-take-le, take-suc, ext_get_or}
+use Rattle.std.proofs.Common.{ℕ, zero, suc, ◌+◌, ◌*◌, ◌/◌, ◌%◌, ◌^◌, ◌≤◌, ◌<◌, true, ◌&&◌, List, [], ◌∷◌, ◌++◌, ◌≡◌, refl, sym, ◌∙◌, ap, ap₂, arith, lt-ltb, le-leb, eq-eqb, leb, eqb, length, get_or, set, take, length-take-le, take-suc, ext_get_or}
+use lib.Seq.{sets}
 use Rattle.semantics.proofs.Tests.{and_intro}
 use Rattle.stored.specs.Bytes.{word, framed_from, lowest}
 use Rattle.stored.specs.Layout.{cycles_start, following}

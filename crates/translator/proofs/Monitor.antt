@@ -1,10 +1,5 @@
 -- What an emitted formula says as cycles are added (request 7), as a monitor asks it after each of them.
-use Prim.Native.Nat.{ℕ, ◌<◌}
-use native.Mathlib.Omega.{arith}
-use mathlib.Core.Bool.{true, false}
-use mathlib.Core.List.{List, ◌++◌}
-use mathlib.Core.Path.{◌≡◌, sym, ◌∙◌}
-use lib.ListN.{length}
+use Rattle.std.proofs.Common.{ℕ, ◌<◌, arith, true, false, List, ◌++◌, ◌≡◌, sym, ◌∙◌, length}
 use Rattle.semantics.specs.Proposition.{Trace}
 use Rattle.semantics.specs.Clause.{assumption_role}
 use Rattle.semantics.specs.Verdict.{some_fails}

@@ -1,8 +1,5 @@
 -- What follows of an emitted formula that is all of what is written: every written name stands under its quantifier.
-use Prim.Native.Nat.{ℕ, ◌<◌}
-use mathlib.Core.Bool.{true}
-use mathlib.Core.List.{List}
-use mathlib.Core.Path.{◌≡◌}
+use Rattle.std.proofs.Common.{ℕ, ◌<◌, true, List, ◌≡◌}
 use Rattle.semantics.specs.Placement.{Names}
 use Rattle.stored.specs.Sheet.{header_of, nodes_of}
 use Rattle.stored.specs.Emitted.{root_of}

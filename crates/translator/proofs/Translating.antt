@@ -1,12 +1,5 @@
 -- From the bytes written to what translate promises.
-use Prim.Native.Nat.{ℕ, ◌+◌, ◌-◌, ◌*◌, ◌≤◌, ◌<◌}
-use mathlib.Core.Bool.{Bool, true, false, cond}
-use mathlib.Core.List.{List}
-use mathlib.Core.Path.{◌≡◌, refl, sym, ◌∙◌, ap, subst}
-use native.Mathlib.Omega.{arith}
-use borrow.Author.Tests.{le-leb, eq-eqb, eqb-true, ne_eqb, lt-ltb, le-ltb}
-use lib.Dec.{eqb, ltb}
-use lib.ListN.{length, get_or, take, drop, length-take}
+use Rattle.std.proofs.Common.{ℕ, ◌+◌, ◌-◌, ◌*◌, ◌≤◌, ◌<◌, Bool, true, false, cond, List, ◌≡◌, refl, sym, ◌∙◌, ap, subst, arith, le-leb, eq-eqb, eqb-true, ne_eqb, lt-ltb, le-ltb, eqb, ltb, length, get_or, take, drop, length-take, Result, Ok, Err}
 use Rattle.semantics.specs.Formula.{Formula, true_of}
 use Rattle.semantics.specs.Placement.{no_names}
 use Rattle.semantics.specs.Reach.{within}
@@ -17,7 +10,6 @@ use Rattle.semantics.proofs.Agreement.{agreement}
 use Rattle.semantics.proofs.Tests.{and_intro}
 use Rattle.stored.specs.declared.Node.{Node}
 use Rattle.stored.specs.declared.Header.{Header}
-use Rattle.std.specs.Prelude.{Result, Ok, Err}
 use Rattle.stored.specs.declared.refusal.Refusal.{Refusal}
 use Rattle.stored.specs.declared.refusal.Refusal.TheVariants.{ShortOutput}
 use Rattle.stored.specs.Bytes.{word, framed_from}

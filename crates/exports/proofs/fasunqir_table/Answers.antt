@@ -1,5 +1,5 @@
 -- `exports::fasunqir_table` meets its contract.
-use native.Mathlib.Omega.{arith}
+use Rattle.std.proofs.Common.{arith}
 use Rattle.exports.proofs.Tabled.{short_law, long_law}
 use Rattle.exports.proofs.fasunqir_table.Goals as goal
 

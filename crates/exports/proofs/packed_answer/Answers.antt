@@ -1,6 +1,5 @@
 -- `exports::packed_answer` meets its contract.
-use mathlib.Core.Path.{sym, ◌∙◌, ap, subst}
-use Rattle.std.specs.Prelude.{Result, IfOk}
+use Rattle.std.proofs.Common.{sym, ◌∙◌, ap, subst, Result, IfOk}
 use Rattle.stored.specs.declared.refusal.Refusal.{Refusal}
 use Rattle.checker.specs.declared.check.Verdict.{Verdict}
 use Rattle.checker.specs.Small.{SmallVerdict}

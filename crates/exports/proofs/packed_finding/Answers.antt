@@ -1,7 +1,5 @@
 -- `exports::packed_finding` meets its contract.
-use Prim.Native.Nat.{ℕ, ◌+◌, ◌*◌, ◌<◌}
-use mathlib.Core.Path.{◌≡◌, sym, ◌∙◌, ap, subst}
-use borrow.Author.Rules.{rules}
+use Rattle.std.proofs.Common.{ℕ, ◌+◌, ◌*◌, ◌<◌, ◌≡◌, sym, ◌∙◌, ap, subst, rules}
 use Rattle.checker.specs.declared.check.Finding.{Finding}
 use Rattle.checker.specs.Small.{SmallPlace, SmallFinding}
 use Rattle.exports.specs.Packed.{packed_finding, findings}

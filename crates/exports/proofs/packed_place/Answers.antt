@@ -1,5 +1,5 @@
 -- `exports::packed_place` meets its contract.
-use mathlib.Core.Path.{refl}
+use Rattle.std.proofs.Common.{refl}
 use Rattle.exports.specs.Packed.{packed_place}
 use Rattle.exports.proofs.packed_place.Goals as goal
 

@@ -1,6 +1,5 @@
 -- `exports::packed_verdict` meets its contract.
-use Prim.Native.Nat.{ℕ, ◌+◌, ◌*◌}
-use mathlib.Core.Path.{ap}
+use Rattle.std.proofs.Common.{ℕ, ◌+◌, ◌*◌, ap}
 use Rattle.exports.specs.Packed.{packed}
 use Rattle.exports.proofs.packed_verdict.Goals as goal
 

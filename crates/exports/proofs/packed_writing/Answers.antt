@@ -1,8 +1,5 @@
 -- `exports::packed_writing` meets its contract.
-use Prim.Native.Nat.{ℕ, ◌≤◌}
-use mathlib.Core.Path.{sym, ◌∙◌, ap, subst}
-use borrow.Author.Rules.{rules}
-use Rattle.std.specs.Prelude.{Result}
+use Rattle.std.proofs.Common.{ℕ, ◌≤◌, sym, ◌∙◌, ap, subst, rules, Result}
 use Rattle.stored.specs.Layout.{least_output}
 use Rattle.stored.specs.declared.refusal.Refusal.{Refusal}
 use Rattle.exports.specs.Packed.{packed_writing, SmallWriting}

@@ -1,10 +1,5 @@
 -- `exports::put_answer` meets its contract.
-use Prim.Native.Nat.{ℕ}
-use mathlib.Core.List.{List, ◌++◌}
-use mathlib.Core.Path.{◌≡◌, ◌∙◌, ap}
-use native.Mathlib.Omega.{arith}
-use borrow.Author.Rules.{rules}
-use lib.ListN.{length, drop, length-take}
+use Rattle.std.proofs.Common.{ℕ, List, ◌++◌, ◌≡◌, ◌∙◌, ap, arith, rules, length, drop, length-take}
 use Rattle.exports.proofs.Tabled.{put_refused, put_table}
 use Rattle.exports.proofs.put_answer.Goals as goal
 

@@ -1,7 +1,5 @@
 -- `exports::refused_short` meets its contract.
-use Prim.Native.Nat.{ℕ, ◌*◌}
-use mathlib.Core.Path.{sym, ◌∙◌, ap}
-use Rattle.std.specs.Prelude.{is_err}
+use Rattle.std.proofs.Common.{ℕ, ◌*◌, sym, ◌∙◌, ap, is_err}
 use Rattle.exports.proofs.Tabled.{short_refused, short_number_lem}
 use Rattle.exports.proofs.refused_short.Goals as goal
 

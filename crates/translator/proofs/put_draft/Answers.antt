@@ -1,10 +1,6 @@
 -- `translator::put_draft` meets its contract.
-use Prim.Native.Nat.{ℕ}
-use mathlib.Core.List.{List}
-use mathlib.Core.Path.{◌≡◌, sym, ◌∙◌, subst}
-use native.Mathlib.Omega.{arith}
+use Rattle.std.proofs.Common.{ℕ, List, ◌≡◌, sym, ◌∙◌, subst, arith, Ok}
 use Rattle.stored.specs.Sheet.{sheet_answer}
-use Rattle.std.specs.Prelude.{Ok}
 use Rattle.stored.specs.declared.Header.{Header}
 use Rattle.stored.proofs.Accepted.{Counts}
 use Rattle.translator.proofs.Translating.{opened_sheet, header_is, run_drafted, empty_good, empty_count, empty_signals, empty_names, nodes_read, clauses_read, required_parts}

@@ -1,7 +1,6 @@
 -- `translator::translate` meets its contract.
-use mathlib.Core.Path.{sym, subst}
+use Rattle.std.proofs.Common.{sym, subst, arith}
 use Rattle.std.proofs.lemmas.Result.{err_from_is_err_and}
-use native.Mathlib.Omega.{arith}
 use Rattle.stored.proofs.Accepted.{Counts}
 use Rattle.translator.proofs.Translating.{opened_sheet, header_is, sheet_refused, output_refused, drafted, run_translated}
 use Rattle.translator.proofs.translate.Goals as goal

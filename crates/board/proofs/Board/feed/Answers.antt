@@ -1,7 +1,5 @@
 -- `board::Board::feed` meets its contract.
-use Prim.Native.Nat.{ℕ}
-use mathlib.Core.Path.{sym, ◌∙◌, ap}
-use borrow.Author.Rules.{rules}
+use Rattle.std.proofs.Common.{ℕ, sym, ◌∙◌, ap, rules}
 use Rattle.checker.specs.Table.{words_after}
 use Rattle.board.specs.Board.{Sized}
 use Rattle.board.proofs.Admission.{when_admitted, when_refused}

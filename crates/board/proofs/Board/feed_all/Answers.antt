@@ -1,6 +1,5 @@
 -- `board::Board::feed_all` meets its contract.
-use native.Mathlib.Omega.{arith}
-use borrow.Author.Rules.{rules}
+use Rattle.std.proofs.Common.{arith, rules}
 use Rattle.board.specs.Feeds.{lent}
 use Rattle.board.proofs.Feeds.{feeding_none, feeding_more, feeding_done}
 use Rattle.board.proofs.Lasting.{unhealed}

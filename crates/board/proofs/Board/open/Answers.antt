@@ -1,6 +1,5 @@
 -- `board::Board::open` meets its contract.
-use mathlib.Core.Path.{sym, ◌∙◌, ap}
-use Rattle.std.proofs.Common.{Ok}
+use Rattle.std.proofs.Common.{sym, ◌∙◌, ap, Ok}
 use Rattle.std.proofs.lemmas.Result.{err_from_is_err_and}
 use Rattle.stored.proofs.Accepted.{answer_accepted}
 use Rattle.board.proofs.Opening.{sheet_short, open_refused, open_accepted}

@@ -1,9 +1,5 @@
 -- `board::Board::take` meets its contract.
-use Prim.Native.Nat.{◌+◌, ◌-◌}
-use mathlib.Core.Path.{◌≡◌}
-use native.Mathlib.Omega.{arith}
-use lib.ListN.{length, set, length-set, length-take}
-use borrow.Author.Rules.{rules}
+use Rattle.std.proofs.Common.{◌+◌, ◌-◌, ◌≡◌, arith, length, set, length-set, length-take, rules}
 use Rattle.stored.specs.Layout.{most_cycles}
 use Rattle.board.specs.Board.{Sized}
 use Rattle.board.proofs.Admission.{takes, sheet_part}

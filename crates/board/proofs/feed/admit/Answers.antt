@@ -1,5 +1,5 @@
 -- `board::feed::admit` meets its contract.
-use mathlib.Core.Path.{sym, ◌∙◌, ap}
+use Rattle.std.proofs.Common.{sym, ◌∙◌, ap}
 use Rattle.std.proofs.lemmas.Result.{err_from_is_err_and}
 use Rattle.stored.specs.Sheet.{sheet_answer}
 use Rattle.board.proofs.Admission.{sheet_part, admit_sheet, admit_held, admit_words, admit_signals, admit_full, admitted}

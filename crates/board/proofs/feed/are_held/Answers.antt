@@ -1,9 +1,8 @@
 -- `board::feed::are_held` meets its contract.
-use Rattle.std.proofs.Common.{rules, tests, sym, ◌∙◌}
+use Rattle.std.proofs.Common.{rules, tests, sym, ◌∙◌, arith, le-leb}
 use Rattle.std.proofs.lemmas.Iterator.{YieldsList-from_slice}
 use Rattle.std.proofs.lemmas.Iterator.Search.{all_from_yields_List}
-use native.Mathlib.Omega.{arith}
-use borrow.Author.Tests.{le-leb, lt-leb}
+use borrow.Author.Tests.{lt-leb}
 use Rattle.stored.specs.Layout.{most_cycles}
 use Rattle.board.specs.Board.{cycle_fits, held_right}
 use Rattle.board.proofs.Admission.{held_listed}

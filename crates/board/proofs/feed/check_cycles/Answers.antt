@@ -1,12 +1,5 @@
 -- `board::feed::check_cycles` meets its contract.
-use Prim.Native.Nat.{ℕ, ◌-◌}
-use mathlib.Core.List.{List}
-use mathlib.Core.Path.{◌≡◌, subst}
-use native.Mathlib.Omega.{arith}
-use Prim.Native.Nat.{ℕ, ◌-◌}
-use mathlib.Core.List.{List}
-use mathlib.Core.Path.{◌≡◌, subst}
-use native.Mathlib.Omega.{arith}
+use Rattle.std.proofs.Common.{ℕ, ◌-◌, List, ◌≡◌, subst, arith}
 use Rattle.traces.proofs.Written.{trace_front}
 use Rattle.checker.specs.Table.{words_after}
 use Rattle.checker.specs.Check.{check_answer, check_refusal}

@@ -1,6 +1,5 @@
 -- `board::offer::watch` meets its contract.
-use mathlib.Core.Path.{sym, ◌∙◌, ap}
-use Rattle.std.proofs.Common.{Err}
+use Rattle.std.proofs.Common.{sym, ◌∙◌, ap, Err}
 use Rattle.std.proofs.lemmas.Result.{err_from_is_err_and}
 use Rattle.board.proofs.Watched.{watch_refused, watch_opened}
 use Rattle.board.proofs.offer.watch.Goals as goal

@@ -1,9 +1,7 @@
 -- `board::open::new_board` meets its contract.
-use native.Mathlib.Omega.{arith}
-use lib.ListN.{length, length-replicate}
-use Prim.Native.Nat.{ℕ}
+use Rattle.std.proofs.Common.{arith, length, ℕ, ◌∙◌, ap}
+use lib.ListN.{length-replicate}
 use Rattle.stored.specs.Layout.{most_sheet}
-use mathlib.Core.Path.{◌∙◌, ap}
 use Rattle.board.specs.Board.{new_board}
 use Rattle.board.proofs.open.new_board.Goals as goal
 

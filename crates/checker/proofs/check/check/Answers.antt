@@ -1,6 +1,5 @@
 -- `checker::check::check` meets its contract.
-use mathlib.Core.Path.{sym, ◌∙◌, ap}
-use Rattle.std.proofs.Common.{Err}
+use Rattle.std.proofs.Common.{sym, ◌∙◌, ap, Err}
 use Rattle.std.proofs.lemmas.Result.{err_from_is_err_and}
 use Rattle.checker.specs.Table.{words_refusal}
 use Rattle.checker.specs.Check.{check_answer, check_refusal}

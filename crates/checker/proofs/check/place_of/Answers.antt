@@ -1,5 +1,5 @@
 -- `checker::check::place_of` meets its contract.
-use mathlib.Core.Path.{refl}
+use Rattle.std.proofs.Common.{refl}
 use Rattle.checker.specs.Clauses.{place_of}
 use Rattle.checker.proofs.check.place_of.Goals as goal
 

@@ -1,8 +1,5 @@
 -- `checker::check::verdict_of` meets its contract.
-use mathlib.Core.Path.{refl, ap, ◌∙◌}
-use native.Mathlib.Omega.{arith}
-use Prim.Native.Nat.{ℕ}
-use lib.ListN.{replicate}
+use Rattle.std.proofs.Common.{refl, ap, ◌∙◌, arith, ℕ, replicate}
 use Rattle.places.proofs.Walks.{laid_own}
 use Rattle.checker.proofs.Clauses.{all_first, first_laid, verdict_again}
 use Rattle.checker.proofs.check.verdict_of.Goals as goal

@@ -1,6 +1,5 @@
 -- `checker::failing::clause_place` meets its contract.
-use mathlib.Core.Path.{refl}
-use native.Mathlib.Omega.{arith}
+use Rattle.std.proofs.Common.{refl, arith}
 use Rattle.checker.proofs.Clauses.{clause_walkable, clause_least}
 use Rattle.checker.proofs.failing.clause_place.Goals as goal
 

@@ -1,7 +1,5 @@
 -- `checker::failing::failing_advice` meets its contract. The loop's invariant: the byte has the bits of the clauses so far.
-use mathlib.Core.Path.{◌≡◌}
-use Prim.Native.Nat.{◌≤◌}
-use lib.ListN.{length}
+use Rattle.std.proofs.Common.{◌≡◌, ◌≤◌, length}
 use Rattle.rows.specs.Row.{word}
 use Rattle.traces.specs.Columns.{trace_of}
 use Rattle.checker.specs.Clauses.{LaidOver, clause_at}

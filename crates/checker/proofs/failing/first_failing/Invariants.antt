@@ -1,8 +1,5 @@
 -- `checker::failing::first_failing` meets its contract.
-use mathlib.Core.Path.{◌≡◌}
-use Prim.Native.Nat.{ℕ, ◌≤◌, ◌<◌}
-use mathlib.Core.Bool.{false}
-use lib.ListN.{length}
+use Rattle.std.proofs.Common.{◌≡◌, ℕ, ◌≤◌, ◌<◌, false, length}
 use Rattle.semantics.specs.Verdict.{fails_as}
 use Rattle.stored.specs.Clause.{role_of}
 use Rattle.traces.specs.Columns.{trace_of}

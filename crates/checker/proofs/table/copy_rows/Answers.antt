@@ -1,8 +1,5 @@
 -- `checker::table::copy_rows` meets its contract.
-use mathlib.Core.Path.{◌≡◌, refl, ap, ◌∙◌}
-use native.Mathlib.Omega.{arith}
-use Prim.Native.Nat.{ℕ}
-use lib.ListN.{length-set}
+use Rattle.std.proofs.Common.{◌≡◌, refl, ap, ◌∙◌, arith, ℕ, length-set}
 use Rattle.stored.specs.Tree.{earlier}
 use Rattle.stored.proofs.Entries.{entries_none, entries_next, entries_all}
 use Rattle.tables.specs.Table.{row_at}

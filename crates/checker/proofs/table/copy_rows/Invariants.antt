@@ -1,7 +1,5 @@
 -- `checker::table::copy_rows` meets its contract.
-use mathlib.Core.Path.{◌≡◌}
-use Prim.Native.Nat.{ℕ}
-use lib.ListN.{length, get_or}
+use Rattle.std.proofs.Common.{◌≡◌, ℕ, length, get_or}
 use Rattle.stored.specs.Tree.{earlier}
 use Rattle.tables.specs.Table.{row_at}
 use Rattle.checker.proofs.table.copy_rows.Given as goal

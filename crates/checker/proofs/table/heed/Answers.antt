@@ -1,5 +1,5 @@
 -- `checker::table::heed` meets its contract.
-use borrow.Author.Tests.{lt-ltb, le-ltb}
+use Rattle.std.proofs.Common.{lt-ltb, le-ltb}
 use Rattle.checker.specs.Table.{heeded}
 use Rattle.checker.proofs.table.heed.Goals as goal
 

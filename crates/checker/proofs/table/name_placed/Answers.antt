@@ -1,5 +1,5 @@
 -- `checker::table::name_placed` meets its contract.
-use mathlib.Core.Path.{refl}
+use Rattle.std.proofs.Common.{refl}
 use Rattle.checker.specs.Table.{name_placed}
 use Rattle.checker.proofs.table.name_placed.Goals as goal
 

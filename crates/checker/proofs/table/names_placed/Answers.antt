@@ -1,6 +1,5 @@
 -- `checker::table::names_placed` meets its contract.
-use mathlib.Core.Path.{ap₂}
-use mathlib.Core.Bool.{Bool, ◌&&◌}
+use Rattle.std.proofs.Common.{ap₂, Bool, ◌&&◌}
 use Rattle.checker.specs.Table.{names_placed}
 use Rattle.checker.proofs.table.names_placed.Goals as goal
 

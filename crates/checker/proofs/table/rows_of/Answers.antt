@@ -1,8 +1,5 @@
 -- `checker::table::rows_of` meets its contract.
-use mathlib.Core.Path.{ap, ◌∙◌}
-use native.Mathlib.Omega.{arith}
-use Prim.Native.Nat.{ℕ}
-use lib.ListN.{replicate}
+use Rattle.std.proofs.Common.{ap, ◌∙◌, arith, ℕ, replicate}
 use Rattle.checker.proofs.Opened.{table_is}
 use Rattle.checker.proofs.table.rows_of.Goals as goal
 

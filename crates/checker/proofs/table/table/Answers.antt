@@ -1,6 +1,5 @@
 -- `checker::table::table` meets its contract.
-use mathlib.Core.Path.{sym, ◌∙◌, ap}
-use Rattle.std.proofs.Common.{Err}
+use Rattle.std.proofs.Common.{sym, ◌∙◌, ap, Err}
 use Rattle.std.proofs.lemmas.Result.{err_from_is_err_and}
 use Rattle.checker.specs.Table.{table_answer, table_refusal}
 use Rattle.checker.proofs.Opened.{trace_fits, few_signals, few_cycles, given_accepted}

@@ -1,5 +1,5 @@
 -- `exports::boards::fasunqir_open` meets its contract.
-use mathlib.Core.Path.{sym, ◌∙◌}
+use Rattle.std.proofs.Common.{sym, ◌∙◌}
 use Rattle.exports.proofs.Cells.{open_kept, open_put}
 use Rattle.exports.proofs.boards.fasunqir_open.Goals as goal
 

@@ -1,8 +1,7 @@
 -- The cycle of calls {bracket, formula, joined, term}: pieces joined at a level are read by the level below it, single pieces by `term`, and
 -- a bracketed one by `bracket`, inside which there is a formula again, with one bracket fewer to open. The measure goes by the brackets
 -- left, then the level.
-use Prim.Native.Nat.{◌+◌, ◌-◌, ◌*◌}
-use lib.ListN.{length}
+use Rattle.std.proofs.Common.{◌+◌, ◌-◌, ◌*◌, length}
 use Rattle.formulas.specs.Pieces.{about_level, has_level, put_level, Taken}
 use Rattle.propositions.specs.Reads.{Ended}
 use Rattle.formulas.proofs.formula.+bracket_formula_joined_term.Given as goal

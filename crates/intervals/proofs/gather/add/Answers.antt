@@ -1,10 +1,5 @@
 -- `intervals::gather::add` meets its contract.
-use Prim.Native.Nat.{ℕ, ◌+◌, ◌-◌, ◌^◌, ◌≤◌, min}
-use mathlib.Core.Path.{◌≡◌, refl, ap, ◌∙◌}
-use native.Mathlib.Omega.{arith}
-use lib.Bits.{bit_and}
-use lib.Dec.{ltb}
-use lib.ListN.{length-set}
+use Rattle.std.proofs.Common.{ℕ, ◌+◌, ◌-◌, ◌^◌, ◌≤◌, min, ◌≡◌, refl, ap, ◌∙◌, arith, bit_and, ltb, length-set}
 use Rattle.rows.specs.Row.{word}
 use Rattle.tables.specs.Table.{standing, row_at}
 use Rattle.intervals.proofs.Gathered.{added_none, added_turn, added_all, added_ends}

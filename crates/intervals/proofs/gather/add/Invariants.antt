@@ -1,7 +1,5 @@
 -- `intervals::gather::add` meets its contract.
-use Prim.Native.Nat.{◌≤◌}
-use mathlib.Core.Path.{◌≡◌}
-use lib.ListN.{length}
+use Rattle.std.proofs.Common.{◌≤◌, ◌≡◌, length}
 use Rattle.intervals.proofs.Gathered.{cut_row, Added}
 use Rattle.intervals.proofs.gather.add.Given as goal
 

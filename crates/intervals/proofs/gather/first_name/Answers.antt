@@ -1,7 +1,5 @@
 -- `intervals::gather::first_name` meets its contract.
-use Prim.Native.Nat.{ℕ, min}
-use native.Mathlib.Omega.{arith}
-use mathlib.Core.Path.{ap, ap₂, ◌∙◌}
+use Rattle.std.proofs.Common.{ℕ, min, arith, ap, ap₂, ◌∙◌}
 use Rattle.semantics.specs.Proposition.{bit}
 use Rattle.tables.specs.Table.{standing}
 use Rattle.intervals.specs.Gather.{first_name}

@@ -1,6 +1,5 @@
 -- `intervals::gather::last_name` meets its contract.
-use Prim.Native.Nat.{ℕ, max}
-use mathlib.Core.Path.{ap₂, ◌∙◌}
+use Rattle.std.proofs.Common.{ℕ, max, ap₂, ◌∙◌}
 use Rattle.intervals.specs.Gather.{last_name}
 use Rattle.intervals.proofs.gather.last_name.Goals as goal
 

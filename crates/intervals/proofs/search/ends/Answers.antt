@@ -1,9 +1,5 @@
 -- `intervals::search::ends` meets its contract.
-use mathlib.Core.Path.{ap, ◌∙◌}
-use native.Mathlib.Omega.{arith}
-use Prim.Native.Nat.{ℕ}
-use lib.Bits.{bit_and}
-use lib.ListN.{get_or}
+use Rattle.std.proofs.Common.{ap, ◌∙◌, arith, ℕ, bit_and, get_or}
 use Rattle.intervals.specs.Rows.{test_of, ending}
 use Rattle.intervals.proofs.Found.{only_end, first_starts}
 use Rattle.intervals.proofs.search.ends.Goals as goal

@@ -1,8 +1,5 @@
 -- `intervals::search::next` meets its contract.
-use mathlib.Core.Path.{subst, sym}
-use Prim.Native.Nat.{ℕ, ◌-◌, ◌^◌}
-use native.Mathlib.Omega.{arith}
-use lib.Bits.{bit_and}
+use Rattle.std.proofs.Common.{subst, sym, ℕ, ◌-◌, ◌^◌, arith, bit_and}
 use lib.Count.{count_trailing_zeros, trailing_le}
 use Rattle.intervals.specs.Rows.{Next}
 use Rattle.intervals.proofs.Found.{next_is}

@@ -1,9 +1,5 @@
 -- `intervals::search::none_between` meets its contract.
-use native.Mathlib.Omega.{arith}
-use mathlib.Core.Path.{ap₂, ◌∙◌}
-use Prim.Native.Nat.{ℕ, ◌-◌, ◌^◌}
-use lib.Bits.{bit_and}
-use lib.Dec.{eqb}
+use Rattle.std.proofs.Common.{arith, ap₂, ◌∙◌, ℕ, ◌-◌, ◌^◌, bit_and, eqb}
 use Rattle.intervals.proofs.Found.{none_is}
 use Rattle.intervals.proofs.search.none_between.Goals as goal
 

@@ -1,7 +1,5 @@
 -- `intervals::search::search` meets its contract.
-use Prim.Native.Nat.{◌<◌}
-use mathlib.Core.Path.{refl, sym, ◌∙◌}
-use native.Mathlib.Omega.{arith}
+use Rattle.std.proofs.Common.{◌<◌, refl, sym, ◌∙◌, arith}
 use Rattle.intervals.specs.Rows.{type_of}
 use Rattle.intervals.proofs.Searching.{first_end, next_end, first_cycle, next_cycle, found_least, next_row, none_found}
 use Rattle.intervals.proofs.search.search.Goals as goal

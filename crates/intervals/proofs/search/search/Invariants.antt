@@ -1,7 +1,5 @@
 -- `intervals::search::search` meets its contract.
-use Prim.Native.Nat.{◌-◌, ◌≤◌, ◌<◌}
-use mathlib.Core.Bool.{true}
-use mathlib.Core.Path.{◌≡◌}
+use Rattle.std.proofs.Common.{◌-◌, ◌≤◌, ◌<◌, true, ◌≡◌}
 use Rattle.semantics.specs.Proposition.{bit}
 use Rattle.intervals.specs.Rows.{type_of}
 use Rattle.intervals.proofs.Searching.{RowsPassed, EndsPassed, CyclesPassed}

@@ -1,8 +1,5 @@
 -- `intervals::search::starts` meets its contract.
-use mathlib.Core.Path.{ap, ap₂, ◌∙◌}
-use Prim.Native.Nat.{ℕ, ◌-◌, ◌^◌}
-use native.Mathlib.Omega.{arith}
-use lib.Bits.{bit_and}
+use Rattle.std.proofs.Common.{ap, ap₂, ◌∙◌, ℕ, ◌-◌, ◌^◌, arith, bit_and}
 use Rattle.intervals.specs.Rows.{starting}
 use Rattle.intervals.proofs.Found.{pref_starts, pref_none, init_starts, init_none, first_starts, implies_starts}
 use Rattle.intervals.proofs.search.starts.Goals as goal

@@ -1,5 +1,5 @@
 -- `lines::answer::refused` meets its contract.
-use native.Mathlib.Omega.{arith}
+use Rattle.std.proofs.Common.{arith}
 use Rattle.lines.proofs.answer.refused.Goals as goal
 
 pub returns : goal.returns

@@ -1,9 +1,4 @@
-use Prim.Native.Nat.{ℕ, ◌-◌, ◌<◌}
-use mathlib.Core.Bool.{Bool, ◌&&◌}
-use lib.Dec.{eqb}
-use mathlib.Core.Path.{refl, sym, ap, ◌∙◌}
-use native.Mathlib.Omega.{arith}
-use lib.ListN.{length, get_or, replicate}
+use Rattle.std.proofs.Common.{ℕ, ◌-◌, ◌<◌, Bool, ◌&&◌, eqb, refl, sym, ap, ◌∙◌, arith, length, get_or, replicate}
 use Rattle.tables.specs.Table.{standing}
 use Rattle.places.specs.Laid.{low_of, last_of}
 use Rattle.places.proofs.Loops.{low_last, walked_none, walked_turn}

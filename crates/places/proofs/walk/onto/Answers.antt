@@ -1,5 +1,5 @@
 -- `places::walk::onto` meets its contract.
-use mathlib.Core.Path.{refl}
+use Rattle.std.proofs.Common.{refl}
 use Rattle.places.specs.Laid.{with_next}
 use Rattle.places.proofs.walk.onto.Goals as goal
 

@@ -1,8 +1,5 @@
 -- `printed::line::answer_for` meets its contract.
-use Prim.Native.Nat.{◌-◌}
-use mathlib.Core.Path.{sym, ◌∙◌, subst}
-use lib.ListN.{length, take, drop}
-use Rattle.std.specs.Prelude.{Result, IfOk}
+use Rattle.std.proofs.Common.{◌-◌, sym, ◌∙◌, subst, length, take, drop, Result, IfOk}
 use Rattle.stored.specs.declared.refusal.Refusal.{Refusal}
 use Rattle.checker.specs.declared.check.Verdict.{Verdict}
 use Rattle.checker.specs.Small.{SmallVerdict}

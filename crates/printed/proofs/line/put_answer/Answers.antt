@@ -1,8 +1,5 @@
 -- `printed::line::put_answer` meets its contract.
-use mathlib.Core.Path.{subst}
-use native.Mathlib.Omega.{arith}
-use Prim.Native.Nat.{ℕ}
-use Rattle.std.specs.Prelude.{Result, IfOk}
+use Rattle.std.proofs.Common.{subst, arith, ℕ, Result, IfOk}
 use Rattle.stored.specs.declared.refusal.Refusal.{Refusal}
 use Rattle.checker.specs.declared.check.Verdict.{Verdict}
 use Rattle.checker.specs.Small.{SmallVerdict}

@@ -1,5 +1,5 @@
 -- `printed::line::put_verdict` meets its contract.
-use native.Mathlib.Omega.{arith}
+use Rattle.std.proofs.Common.{arith}
 use Rattle.printed.specs.Line.{word_of, numbers_of}
 use Rattle.printed.proofs.Shown.{found_digits, put_found}
 use Rattle.printed.proofs.line.put_verdict.Goals as goal

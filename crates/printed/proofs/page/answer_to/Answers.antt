@@ -1,7 +1,5 @@
 -- `printed::page::answer_to` meets its contract.
-use mathlib.Core.Path.{◌∙◌}
-use Prim.Native.Nat.{◌-◌}
-use lib.ListN.{length, take, drop}
+use Rattle.std.proofs.Common.{◌∙◌, ◌-◌, length, take, drop}
 use Rattle.printed.proofs.Answers.{first_part, last_part, answer_is}
 use Rattle.printed.proofs.page.answer_to.Goals as goal
 

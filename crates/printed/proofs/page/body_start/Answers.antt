@@ -1,6 +1,5 @@
 -- `printed::page::body_start` meets its contract.
-use mathlib.Core.Path.{refl}
-use native.Mathlib.Omega.{arith}
+use Rattle.std.proofs.Common.{refl, arith}
 use Rattle.printed.proofs.Shown.{short_drop}
 use Rattle.printed.proofs.page.body_start.Goals as goal
 

@@ -1,5 +1,5 @@
 -- `printed::page::glyph` meets its contract.
-use borrow.Author.Tests.{lt-ltb, le-ltb}
+use Rattle.std.proofs.Common.{lt-ltb, le-ltb}
 use Rattle.printed.specs.Page.{glyph_of}
 use Rattle.printed.proofs.page.glyph.Goals as goal
 

@@ -1,8 +1,5 @@
 -- `printed::page::page_of` meets its contract.
-use Prim.Native.Nat.{ℕ}
-use mathlib.Core.List.{List}
-use mathlib.Core.Path.{sym, ◌∙◌, ap}
-use native.Mathlib.Omega.{arith}
+use Rattle.std.proofs.Common.{ℕ, List, sym, ◌∙◌, ap, arith}
 use Rattle.lines.specs.Lines.{refused_text}
 use Rattle.printed.specs.Page.{table_text, text_of}
 use Rattle.lines.proofs.Texts.{put_padded}

@@ -1,5 +1,5 @@
 -- `printed::page::row_byte` meets its contract.
-use borrow.Author.Tests.{eq-eqb, ne_eqb}
+use Rattle.std.proofs.Common.{eq-eqb, ne_eqb}
 use Rattle.printed.specs.Page.{row_byte}
 use Rattle.printed.proofs.page.row_byte.Goals as goal
 

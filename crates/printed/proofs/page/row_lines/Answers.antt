@@ -1,8 +1,6 @@
 -- `printed::page::row_lines` meets its contract.
-use Prim.Native.Nat.{ℕ}
-use mathlib.Core.Path.{◌∙◌, ap}
-use native.Mathlib.Omega.{arith}
-use lib.ListN.{length, length-set, length-replicate}
+use Rattle.std.proofs.Common.{ℕ, ◌∙◌, ap, arith, length, length-set}
+use lib.ListN.{length-replicate}
 use Rattle.lines.proofs.Copies.{copied_more, copied_all}
 use Rattle.printed.specs.Page.{table_byte, table_text}
 use Rattle.printed.proofs.page.row_lines.Goals as goal

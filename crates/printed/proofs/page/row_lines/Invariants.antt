@@ -1,7 +1,5 @@
 -- `printed::page::row_lines` meets its contract.
-use Prim.Native.Nat.{ℕ, ◌<◌}
-use mathlib.Core.Path.{◌≡◌}
-use lib.ListN.{length, get_or}
+use Rattle.std.proofs.Common.{ℕ, ◌<◌, ◌≡◌, length, get_or}
 use Rattle.printed.specs.Page.{table_byte}
 use Rattle.printed.proofs.page.row_lines.Given as goal
 

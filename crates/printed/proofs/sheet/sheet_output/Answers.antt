@@ -1,5 +1,5 @@
 -- `printed::sheet::sheet_output` meets its contract.
-use native.Mathlib.Omega.{arith}
+use Rattle.std.proofs.Common.{arith}
 use Rattle.printed.proofs.Outputs.{blank_length, sheet_fits, sheet_output, unread_output}
 use Rattle.printed.proofs.sheet.sheet_output.Goals as goal
 

@@ -1,9 +1,7 @@
 -- `printed::wall::minute_line` meets its contract.
-use Prim.Native.Nat.{ℕ}
-use mathlib.Core.Path.{sym, ◌∙◌, ap, subst}
-use lib.ListN.{replicate, length-replicate}
+use Rattle.std.proofs.Common.{ℕ, sym, ◌∙◌, ap, subst, replicate, Result, IfOk}
+use lib.ListN.{length-replicate}
 use Rattle.stored.specs.Layout.{least_words}
-use Rattle.std.specs.Prelude.{Result, IfOk}
 use Rattle.stored.specs.declared.refusal.Refusal.{Refusal}
 use Rattle.checker.specs.declared.check.Verdict.{Verdict}
 use Rattle.checker.specs.Small.{SmallVerdict}

@@ -1,5 +1,5 @@
 -- `printed::wall::open_line` meets its contract.
-use mathlib.Core.Path.{sym, ◌∙◌}
+use Rattle.std.proofs.Common.{sym, ◌∙◌}
 use Rattle.printed.specs.Line.{line_text}
 use Rattle.printed.proofs.Shown.{opened_board, refused_number}
 use Rattle.printed.proofs.wall.open_line.Goals as goal

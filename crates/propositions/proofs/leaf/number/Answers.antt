@@ -1,5 +1,5 @@
 -- `propositions::leaf::number` meets its contract.
-use mathlib.Core.Path.{refl}
+use Rattle.std.proofs.Common.{refl}
 use Rattle.grammar.proofs.Said.{computing}
 use Rattle.lexer.specs.Lexed.{meant, is_end}
 use Rattle.lexer.specs.declared.Token.TheVariants.{Number}

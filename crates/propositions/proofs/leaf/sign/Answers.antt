@@ -1,6 +1,5 @@
 -- `propositions::leaf::sign` meets its contract.
-use mathlib.Core.Path.{refl}
-use Rattle.std.proofs.Common.{rules}
+use Rattle.std.proofs.Common.{refl, rules}
 use Rattle.grammar.proofs.Said.{computing}
 use Rattle.lexer.specs.Lexed.{meant, is_end}
 use Rattle.lexer.specs.declared.Token.TheVariants.{Plain}

@@ -1,7 +1,5 @@
 -- `propositions::leaf::word` meets its contract.
-use native.Mathlib.Omega.{arith}
-use Prim.Native.Nat.{◌+◌, ◌-◌}
-use mathlib.Core.Path.{◌≡◌, refl}
+use Rattle.std.proofs.Common.{arith, ◌+◌, ◌-◌, ◌≡◌, refl}
 use Rattle.grammar.specs.Token.{plain}
 use Rattle.lexer.specs.Lexed.{meant, is_end}
 use Rattle.lexer.specs.declared.Token.TheVariants.{Plain}

@@ -1,6 +1,5 @@
 -- The cycle of calls {atom, both, bracket, proposition, unit}: in round brackets a piece is a proposition again, with one bracket fewer to open.
-use Prim.Native.Nat.{◌+◌, ◌-◌, ◌*◌}
-use lib.ListN.{length}
+use Rattle.std.proofs.Common.{◌+◌, ◌-◌, ◌*◌, length}
 use Rattle.grammar.specs.Reader.{about_or_p, has_or_p}
 use Rattle.typed.specs.Draft.{put_or_p, put_and_p}
 use Rattle.propositions.specs.Reads.{Ended}

@@ -1,6 +1,5 @@
 -- `propositions::proposition::nots` meets its contract.
-use Prim.Native.Nat.{◌-◌}
-use lib.ListN.{length}
+use Rattle.std.proofs.Common.{◌-◌, length}
 use Rattle.propositions.proofs.Propositions.{Passed}
 use Rattle.propositions.proofs.proposition.nots.Given as goal
 

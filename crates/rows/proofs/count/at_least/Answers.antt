@@ -1,5 +1,5 @@
 -- `rows::count::at_least` meets its contract.
-use native.Mathlib.Omega.{arith}
+use Rattle.std.proofs.Common.{arith}
 use Rattle.rows.proofs.Counts.{all_least, above_least}
 use Rattle.rows.proofs.count.at_least.Goals as goal
 

@@ -1,8 +1,5 @@
 -- `rows::count::counted` meets its contract.
-use mathlib.Core.Path.{ap, ◌∙◌}
-use Prim.Native.Nat.{ℕ}
-use native.Mathlib.Omega.{arith}
-use lib.Bits.{bit_and}
+use Rattle.std.proofs.Common.{ap, ◌∙◌, ℕ, arith, bit_and}
 use Rattle.rows.specs.Symbols.{comparison_of, counted_to}
 use Rattle.rows.proofs.Rows.{masked_row}
 use Rattle.rows.proofs.count.counted.Goals as goal

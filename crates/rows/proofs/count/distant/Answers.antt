@@ -1,7 +1,5 @@
 -- `rows::count::distant` meets its contract.
-use Prim.Native.Nat.{ℕ, ◌-◌, ◌^◌}
-use mathlib.Core.Path.{ap, ap₂}
-use lib.Bits.{bit_and}
+use Rattle.std.proofs.Common.{ℕ, ◌-◌, ◌^◌, ap, ap₂, bit_and}
 use Rattle.rows.proofs.Counts.{distant_below, distant_most, distant_equal, distant_least, distant_above}
 use Rattle.rows.proofs.count.distant.Goals as goal
 

@@ -1,8 +1,5 @@
 -- `rows::count::more_than` meets its contract.
-use mathlib.Core.Path.{◌≡◌, sym, ap, subst}
-use Prim.Native.Nat.{ℕ, ◌-◌, ◌+◌, ◌^◌}
-use native.Mathlib.Omega.{arith}
-use lib.Bits.{bit_and}
+use Rattle.std.proofs.Common.{◌≡◌, sym, ap, subst, ℕ, ◌-◌, ◌+◌, ◌^◌, arith, bit_and}
 use lib.Count.{ones}
 use Rattle.rows.proofs.Counts.{Dropped, dropped_none, dropped_some, dropped_more, few_above, dropped_above}
 use Rattle.rows.proofs.count.more_than.Goals as goal

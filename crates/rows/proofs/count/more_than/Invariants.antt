@@ -1,5 +1,5 @@
 -- `rows::count::more_than` meets its contract.
-use Prim.Native.Nat.{◌-◌, ◌<◌}
+use Rattle.std.proofs.Common.{◌-◌, ◌<◌}
 use lib.Count.{ones}
 use Rattle.rows.proofs.Counts.{from, Dropped}
 use Rattle.rows.proofs.count.more_than.Given as goal

@@ -1,5 +1,5 @@
 -- `rows::count::passing` meets its contract.
-use native.Mathlib.Omega.{arith}
+use Rattle.std.proofs.Common.{arith}
 use Rattle.rows.proofs.Counts.{counted_below, counted_most, counted_equal}
 use Rattle.rows.proofs.count.passing.Goals as goal
 

@@ -1,8 +1,6 @@
 -- `rows::count::scount` meets its contract.
-use Prim.Native.Nat.{suc}
-use native.Mathlib.Numerals.{add-one}
+use Rattle.std.proofs.Common.{suc, add-one, ◌∙◌}
 use Rattle.rows.proofs.Counts.{counted_as}
-use mathlib.Core.Path.{◌∙◌}
 use Rattle.rows.specs.Symbols.{comparison_of}
 use Rattle.rows.proofs.count.scount.Goals as goal
 

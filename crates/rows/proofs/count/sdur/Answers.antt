@@ -1,7 +1,6 @@
 -- `rows::count::sdur` meets its contract.
-use native.Mathlib.Nat.{add-zero}
+use Rattle.std.proofs.Common.{add-zero, ◌∙◌}
 use Rattle.rows.proofs.Counts.{counted_as}
-use mathlib.Core.Path.{◌∙◌}
 use Rattle.rows.specs.Symbols.{comparison_of}
 use Rattle.rows.proofs.count.sdur.Goals as goal
 

@@ -1,8 +1,5 @@
 -- `rows::count::slen` meets its contract.
-use native.Mathlib.Omega.{arith}
-use Prim.Native.Nat.{ℕ, ◌-◌}
-use mathlib.Core.Path.{ap, ◌∙◌}
-use lib.Bits.{bit_and}
+use Rattle.std.proofs.Common.{arith, ℕ, ◌-◌, ap, ◌∙◌, bit_and}
 use Rattle.semantics.specs.Formula.{compared}
 use Rattle.rows.specs.Symbols.{comparison_of}
 use Rattle.rows.proofs.Rows.{masked_row}

@@ -1,7 +1,5 @@
 -- `rows::cut::shortest` meets its contract.
-use mathlib.Core.Path.{ap, ◌∙◌}
-use native.Mathlib.Omega.{arith}
-use lib.Bits.{bit_and}
+use Rattle.std.proofs.Common.{ap, ◌∙◌, arith, bit_and}
 use Rattle.rows.proofs.Cuts.{shortest_is}
 use Rattle.rows.proofs.cut.shortest.Goals as goal
 

@@ -1,8 +1,5 @@
 -- `rows::gap::gap` meets its contract.
-use mathlib.Core.Path.{ap, ap₂, ◌∙◌}
-use Prim.Native.Nat.{ℕ, suc, ◌-◌, ◌^◌}
-use mathlib.Core.Bool.{not}
-use lib.Bits.{bit_and}
+use Rattle.std.proofs.Common.{ap, ap₂, ◌∙◌, ℕ, suc, ◌-◌, ◌^◌, not, bit_and}
 use Rattle.semantics.specs.Cycles.{some_below}
 use Rattle.semantics.specs.Proposition.{bit}
 use Rattle.rows.specs.Row.{word, joined, shifted}

@@ -1,8 +1,5 @@
 -- `rows::gap::spread` meets its contract.
-use native.Mathlib.Omega.{arith}
-use native.Mathlib.Nat.{mod-lt}
-use Prim.Native.Nat.{◌*◌, ◌^◌}
-use lib.Pow.{pow_pos}
+use Rattle.std.proofs.Common.{arith, mod-lt, ◌*◌, ◌^◌, pow_pos}
 use Rattle.rows.specs.Row.{shifted}
 use Rattle.rows.proofs.Joins.{join_next, join_end}
 use Rattle.rows.proofs.gap.spread.Goals as goal

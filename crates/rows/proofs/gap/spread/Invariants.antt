@@ -1,7 +1,5 @@
 -- `rows::gap::spread` meets its contract.
-use mathlib.Core.Path.{◌≡◌}
-use Prim.Native.Nat.{◌^◌, ◌<◌}
-use lib.Bits.{bit_or}
+use Rattle.std.proofs.Common.{◌≡◌, ◌^◌, ◌<◌, bit_or}
 use Rattle.rows.specs.Row.{joined, shifted}
 use Rattle.rows.proofs.gap.spread.Given as goal
 

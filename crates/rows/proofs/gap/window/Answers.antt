@@ -1,7 +1,5 @@
 -- `rows::gap::window` meets its contract.
-use mathlib.Core.Path.{ap₂, ◌∙◌}
-use Prim.Native.Nat.{ℕ, ◌-◌, ◌^◌}
-use lib.Bits.{bit_and}
+use Rattle.std.proofs.Common.{ap₂, ◌∙◌, ℕ, ◌-◌, ◌^◌, bit_and}
 use Rattle.rows.proofs.Gaps.{window_is}
 use Rattle.rows.proofs.gap.window.Goals as goal
 

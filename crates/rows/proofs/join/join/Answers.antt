@@ -1,6 +1,5 @@
 -- `rows::join::join` meets its contract.
-use native.Mathlib.Omega.{arith}
-use lib.ListN.{get_or}
+use Rattle.std.proofs.Common.{arith, get_or}
 use Rattle.rows.proofs.Joins.{join_next, join_end}
 use Rattle.rows.proofs.join.join.Goals as goal
 

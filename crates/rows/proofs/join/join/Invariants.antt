@@ -1,8 +1,5 @@
 -- `rows::join::join` meets its contract.
-use mathlib.Core.Path.{◌≡◌}
-use Prim.Native.Nat.{◌^◌, ◌<◌}
-use lib.ListN.{get_or}
-use lib.Bits.{bit_or}
+use Rattle.std.proofs.Common.{◌≡◌, ◌^◌, ◌<◌, get_or, bit_or}
 use Rattle.rows.specs.Row.{joined}
 use Rattle.rows.proofs.join.join.Given as goal
 

@@ -1,8 +1,5 @@
 -- `rows::join::join_more` meets its contract.
-use mathlib.Core.Path.{ap, ap₂, ◌∙◌}
-use Prim.Native.Nat.{ℕ}
-use lib.ListN.{get_or}
-use lib.Bits.{bit_or}
+use Rattle.std.proofs.Common.{ap, ap₂, ◌∙◌, ℕ, get_or, bit_or}
 use Rattle.rows.specs.Row.{joined}
 use Rattle.rows.proofs.Joins.{join_new}
 use Rattle.rows.proofs.join.join_more.Goals as goal

@@ -1,6 +1,5 @@
 -- `rows::mask::before_first` meets its contract.
-use mathlib.Core.Path.{◌∙◌}
-use native.Mathlib.Omega.{arith}
+use Rattle.std.proofs.Common.{◌∙◌, arith}
 use Rattle.rows.proofs.Masks.{before_first_is}
 use Rattle.rows.proofs.mask.before_first.Goals as goal
 

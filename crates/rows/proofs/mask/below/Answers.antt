@@ -1,7 +1,5 @@
 -- `rows::mask::below` meets its contract.
-use native.Mathlib.Omega.{arith}
-use lib.Dec.{ltb}
-use borrow.Author.Tests.{lt-ltb}
+use Rattle.std.proofs.Common.{arith, ltb, lt-ltb}
 use Rattle.rows.proofs.Masks.{below_is, all_is}
 use Rattle.rows.proofs.mask.below.Goals as goal
 

@@ -1,7 +1,5 @@
 -- `rows::mask::cycles_from` meets its contract.
-use mathlib.Core.Path.{ap₂, ◌∙◌}
-use Prim.Native.Nat.{ℕ, ◌-◌, ◌^◌}
-use lib.Bits.{bit_and}
+use Rattle.std.proofs.Common.{ap₂, ◌∙◌, ℕ, ◌-◌, ◌^◌, bit_and}
 use Rattle.rows.proofs.Masks.{from_is}
 use Rattle.rows.proofs.mask.cycles_from.Goals as goal
 

@@ -1,9 +1,5 @@
 -- `rows::mask::up_to` meets its contract.
-use mathlib.Core.Path.{◌∙◌}
-use Prim.Native.Nat.{◌+◌}
-use native.Mathlib.Omega.{arith}
-use lib.Dec.{leb, ltb}
-use borrow.Author.Tests.{le-leb}
+use Rattle.std.proofs.Common.{◌∙◌, ◌+◌, arith, leb, ltb, le-leb}
 use Rattle.rows.proofs.Rows.{word_ext}
 use Rattle.rows.proofs.Masks.{all_is, up_to_step}
 use Rattle.rows.proofs.mask.up_to.Goals as goal

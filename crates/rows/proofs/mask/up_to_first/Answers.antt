@@ -1,6 +1,5 @@
 -- `rows::mask::up_to_first` meets its contract.
-use mathlib.Core.Path.{◌∙◌}
-use native.Mathlib.Omega.{arith}
+use Rattle.std.proofs.Common.{◌∙◌, arith}
 use Rattle.rows.proofs.Masks.{up_to_first_is}
 use Rattle.rows.proofs.mask.up_to_first.Goals as goal
 

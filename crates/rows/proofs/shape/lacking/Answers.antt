@@ -1,8 +1,5 @@
 -- `rows::shape::lacking` meets its contract.
-use mathlib.Core.Path.{ap, ◌∙◌}
-use Prim.Native.Nat.{ℕ, ◌-◌, ◌^◌}
-use native.Mathlib.Omega.{arith}
-use lib.Bits.{bit_and}
+use Rattle.std.proofs.Common.{ap, ◌∙◌, ℕ, ◌-◌, ◌^◌, arith, bit_and}
 use Rattle.rows.proofs.Shapes.{lacking_is}
 use Rattle.rows.proofs.shape.lacking.Goals as goal
 

@@ -1,8 +1,5 @@
 -- `rows::shape::marked` meets its contract.
-use mathlib.Core.Path.{ap, ◌∙◌}
-use native.Mathlib.Omega.{arith}
-use Prim.Native.Nat.{ℕ}
-use lib.Bits.{bit_and}
+use Rattle.std.proofs.Common.{ap, ◌∙◌, arith, ℕ, bit_and}
 use Rattle.rows.proofs.Shapes.{mark_is}
 use Rattle.rows.proofs.shape.marked.Goals as goal
 

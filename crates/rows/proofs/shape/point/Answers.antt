@@ -1,5 +1,5 @@
 -- `rows::shape::point` meets its contract.
-use mathlib.Core.Path.{sym, ◌∙◌}
+use Rattle.std.proofs.Common.{sym, ◌∙◌}
 use Rattle.rows.proofs.Shapes.{point_all, point_none}
 use Rattle.rows.proofs.shape.point.Goals as goal
 

@@ -1,10 +1,6 @@
 -- `rows::shape::whole` meets its contract.
-use mathlib.Core.Path.{ap, ap₂, ◌∙◌}
-use Prim.Native.Nat.{ℕ, suc}
-use native.Mathlib.Omega.{arith}
+use Rattle.std.proofs.Common.{ap, ap₂, ◌∙◌, ℕ, suc, arith, bit_and, not}
 use Rattle.rows.proofs.Shapes.{held_is}
-use lib.Bits.{bit_and}
-use mathlib.Core.Bool.{not}
 use Rattle.semantics.specs.Cycles.{some_below}
 use Rattle.semantics.specs.Proposition.{bit}
 use Rattle.rows.specs.Row.{word}

@@ -1,7 +1,5 @@
 -- `stored::masks::reach_table` meets its contract.
-use mathlib.Core.Path.{◌≡◌}
-use Prim.Native.Nat.{ℕ}
-use lib.ListN.{length, get_or}
+use Rattle.std.proofs.Common.{◌≡◌, ℕ, length, get_or}
 use Rattle.stored.specs.Node.{node_at}
 use Rattle.stored.specs.Tree.{earlier}
 use Rattle.stored.specs.Reach.{reach_at}

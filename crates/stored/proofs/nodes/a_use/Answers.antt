@@ -1,7 +1,5 @@
 -- `stored::nodes::a_use` meets its contract.
-use mathlib.Core.Path.{◌≡◌, refl, sym}
-use Prim.Native.Nat.{◌≤◌}
-use native.Mathlib.Omega.{arith}
+use Rattle.std.proofs.Common.{◌≡◌, refl, sym, ◌≤◌, arith}
 use lib.ListN.{get_or-eq_default}
 use Rattle.stored.specs.declared.nodes.Use.TheVariants.{Nothing, PropositionNode, FormulaNode}
 use Rattle.stored.specs.Node.{a_uses, a_use}

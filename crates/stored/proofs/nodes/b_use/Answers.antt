@@ -1,7 +1,5 @@
 -- `stored::nodes::b_use` meets its contract.
-use mathlib.Core.Path.{◌≡◌, refl, sym}
-use Prim.Native.Nat.{ℕ}
-use native.Mathlib.Omega.{arith}
+use Rattle.std.proofs.Common.{◌≡◌, refl, sym, ℕ, arith}
 use lib.ListN.{get_or-eq_default}
 use Rattle.stored.specs.declared.nodes.Use.TheVariants.{Nothing, Number}
 use Rattle.stored.specs.Node.{b_uses, b_use}

@@ -1,6 +1,5 @@
 -- `stored::nodes::sort_of` meets its contract.
-use mathlib.Core.Path.{◌≡◌, refl, sym}
-use native.Mathlib.Omega.{arith}
+use Rattle.std.proofs.Common.{◌≡◌, refl, sym, arith}
 use lib.ListN.{get_or-eq_default}
 use Rattle.stored.specs.Node.{formula, no_op, requirement_sorts, sort_of}
 use Rattle.stored.proofs.Rules.{each_between, each_from}

@@ -1,5 +1,5 @@
 -- `stored::sheet::clause_part` meets its contract.
-use native.Mathlib.Omega.{arith}
+use Rattle.std.proofs.Common.{arith}
 use Rattle.stored.proofs.Accepted.{answer_accepted, sizes}
 use Rattle.stored.specs.Sheet.{clause_part}
 use Rattle.stored.proofs.sheet.clause_part.Goals as goal

@@ -1,5 +1,5 @@
 -- `stored::sheet::counts_ok` meets its contract.
-use mathlib.Core.Path.{refl}
+use Rattle.std.proofs.Common.{refl}
 use Rattle.stored.specs.Sheet.{counted}
 use Rattle.stored.proofs.sheet.counts_ok.Goals as goal
 

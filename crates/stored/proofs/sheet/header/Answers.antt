@@ -1,5 +1,5 @@
 -- `stored::sheet::header` meets its contract.
-use native.Mathlib.Omega.{arith}
+use Rattle.std.proofs.Common.{arith}
 use Rattle.stored.specs.Sheet.{header_of}
 use Rattle.stored.proofs.sheet.header.Goals as goal
 

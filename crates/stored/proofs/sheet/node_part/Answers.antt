@@ -1,5 +1,5 @@
 -- `stored::sheet::node_part` meets its contract.
-use native.Mathlib.Omega.{arith}
+use Rattle.std.proofs.Common.{arith}
 use Rattle.stored.proofs.Accepted.{answer_accepted, sizes}
 use Rattle.stored.specs.Sheet.{node_part}
 use Rattle.stored.proofs.sheet.node_part.Goals as goal

@@ -1,10 +1,5 @@
 -- `stored::sheet::read_sheet` meets its contract.
-use borrow.Author.Rules.{rules}
-use mathlib.Core.Path.{◌≡◌, sym, ◌∙◌, ap}
-use native.Mathlib.Omega.{arith}
-use mathlib.Core.Bool.{true}
-use borrow.Author.Tests.{eq-eqb, ne_eqb}
-use Rattle.std.specs.Prelude.{Ok}
+use Rattle.std.proofs.Common.{rules, ◌≡◌, sym, ◌∙◌, ap, arith, true, eq-eqb, ne_eqb, Ok}
 use Rattle.stored.specs.Sheet.{header_of, node_part, clause_part, nodes_of, stored_of, framed, versioned, of_kind_one, counted, sized, nodes_right, operands_found, clauses_right, clauses_named}
 use Rattle.stored.proofs.Accepted.{Counts, counts}
 use Rattle.stored.proofs.Answer.{Framed, Sized, framed_long, covered_named, refused1, refused2, refused3, refused4, refused5, refused6, refused7, refused8, refused9, accepted}

@@ -1,6 +1,5 @@
 -- `tables::column::column_at` meets its contract.
-use mathlib.Core.Path.{refl}
-use native.Mathlib.Omega.{arith}
+use Rattle.std.proofs.Common.{refl, arith}
 use Rattle.traces.specs.Columns.{column_at}
 use Rattle.tables.proofs.column.column_at.Goals as goal
 

@@ -1,5 +1,5 @@
 -- `tables::column::name_column` meets its contract.
-use native.Mathlib.Omega.{arith}
+use Rattle.std.proofs.Common.{arith}
 use Rattle.tables.proofs.column.name_column.Goals as goal
 
 pub column_at-requires : goal.column_at-requires

@@ -1,8 +1,5 @@
 -- `tables::column::proposition` meets its contract.
-use mathlib.Core.Path.{◌≡◌, refl, ap, ap₂}
-use native.Mathlib.Omega.{arith}
-use Prim.Native.Nat.{ℕ, ◌-◌, ◌^◌}
-use lib.Bits.{bit_and, bit_or}
+use Rattle.std.proofs.Common.{◌≡◌, refl, ap, ap₂, arith, ℕ, ◌-◌, ◌^◌, bit_and, bit_or}
 use Rattle.stored.specs.Node.{a_use, b_use}
 use Rattle.stored.specs.Tree.{proposition_op}
 use Rattle.tables.specs.Step.{column_of}

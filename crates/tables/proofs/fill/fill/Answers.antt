@@ -1,7 +1,5 @@
 -- `tables::fill::fill` meets its contract.
-use mathlib.Core.Path.{refl}
-use native.Mathlib.Omega.{arith}
-use borrow.Author.Tests.{eq-eqb}
+use Rattle.std.proofs.Common.{refl, arith, eq-eqb}
 use Rattle.stored.specs.Reach.{joint, entry_of}
 use Rattle.tables.specs.Ready.{apart}
 use Rattle.tables.proofs.Fills.{sofar_none, sofar_before, sofar_turn, sofar_pass, sofar_all, given_other}

@@ -1,7 +1,5 @@
 -- `tables::fill::fill` meets its contract.
-use mathlib.Core.Path.{◌≡◌}
-use Prim.Native.Nat.{◌-◌}
-use lib.ListN.{length}
+use Rattle.std.proofs.Common.{◌≡◌, ◌-◌, length}
 use Rattle.traces.specs.Columns.{trace_of, marks_of}
 use Rattle.stored.specs.Node.{node_at}
 use Rattle.tables.proofs.Fills.{Sofar}

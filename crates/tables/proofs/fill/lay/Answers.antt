@@ -1,5 +1,5 @@
 -- `tables::fill::lay` meets its contract.
-use native.Mathlib.Omega.{arith}
+use Rattle.std.proofs.Common.{arith}
 use Rattle.tables.proofs.Columns.{inside_all}
 use Rattle.tables.proofs.Fills.{reach_long}
 use Rattle.tables.proofs.Moves.{moved_ready}

@@ -1,6 +1,5 @@
 -- `tables::fill::lay_first` meets its contract.
-use native.Mathlib.Omega.{arith}
-use mathlib.Core.Path.{refl}
+use Rattle.std.proofs.Common.{arith, refl}
 use Rattle.tables.proofs.Columns.{inside_all, names_columns}
 use Rattle.tables.proofs.Fills.{given_other}
 use Rattle.tables.proofs.Moves.{kept_none}

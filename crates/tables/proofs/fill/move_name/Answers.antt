@@ -1,8 +1,5 @@
 -- `tables::fill::move_name` meets its contract.
-use mathlib.Core.Path.{sym, ◌∙◌, ap}
-use Prim.Native.Nat.{◌+◌}
-use borrow.Author.Tests.{eq-eqb, ne_eqb}
-use lib.ListN.{set}
+use Rattle.std.proofs.Common.{sym, ◌∙◌, ap, ◌+◌, eq-eqb, ne_eqb, set}
 use Rattle.traces.specs.Columns.{column_at}
 use Rattle.tables.specs.Ready.{marked_at, with_name, changed}
 use Rattle.tables.proofs.fill.move_name.Goals as goal

@@ -1,5 +1,5 @@
 -- `tables::fill::move_names` meets its contract.
-use native.Mathlib.Omega.{arith}
+use Rattle.std.proofs.Common.{arith}
 use Rattle.tables.specs.Table.{standing}
 use Rattle.tables.proofs.Columns.{names_put}
 use Rattle.tables.proofs.fill.move_names.Goals as goal

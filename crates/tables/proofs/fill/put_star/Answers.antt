@@ -1,7 +1,6 @@
 -- `tables::fill::put_star` meets its contract.
-use Rattle.std.proofs.Common.{ℕ, ◌-◌, ◌^◌, ◌∙◌, sym, ap, arith, get_or, set}
+use Rattle.std.proofs.Common.{ℕ, ◌-◌, ◌^◌, ◌∙◌, sym, ap, arith, get_or, set, bit_and, bit_or}
 use Rattle.std.proofs.Math.Path.{ap₂}
-use lib.Bits.{bit_and, bit_or}
 use Rattle.rows.specs.Row.{joined, starred}
 use Rattle.rows.proofs.Joins.{joined_none, starred_is}
 use Rattle.tables.specs.Table.{row_at}

@@ -1,7 +1,5 @@
 -- `tables::line::and_or_row` meets its contract.
-use mathlib.Core.Path.{◌≡◌, ap₂}
-use native.Mathlib.Omega.{arith}
-use lib.Bits.{bit_and, bit_or}
+use Rattle.std.proofs.Common.{◌≡◌, ap₂, arith, bit_and, bit_or}
 use Rattle.stored.specs.Tree.{formula_op}
 use Rattle.tables.specs.Step.{row_of}
 use Rattle.tables.proofs.Rows.{row_told}

@@ -1,6 +1,5 @@
 -- `tables::line::comparison` meets its contract.
-use mathlib.Core.Path.{◌≡◌, sym, ap}
-use native.Mathlib.Omega.{arith}
+use Rattle.std.proofs.Common.{◌≡◌, sym, ap, arith}
 use Rattle.stored.specs.Tree.{comparison_of}
 use Rattle.tables.proofs.line.comparison.Goals as goal
 

@@ -1,7 +1,5 @@
 -- `tables::line::count_row` meets its contract.
-use mathlib.Core.Path.{◌≡◌, ◌∙◌, ap}
-use native.Mathlib.Omega.{arith}
-use Prim.Native.Nat.{◌-◌}
+use Rattle.std.proofs.Common.{◌≡◌, ◌∙◌, ap, arith, ◌-◌}
 use Rattle.rows.specs.Row.{row}
 use Rattle.stored.specs.Tree.{formula_op}
 use Rattle.tables.specs.Step.{row_of}

@@ -1,6 +1,5 @@
 -- `tables::line::drawing_row` meets its contract.
-use mathlib.Core.Path.{◌≡◌, ◌∙◌, ap}
-use native.Mathlib.Omega.{arith}
+use Rattle.std.proofs.Common.{◌≡◌, ◌∙◌, ap, arith}
 use Rattle.semantics.specs.Proposition.{bit}
 use Rattle.semantics.specs.Formula as formula
 use Rattle.semantics.specs.Formula.{drawn_on}

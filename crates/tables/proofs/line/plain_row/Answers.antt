@@ -1,5 +1,5 @@
 -- `tables::line::plain_row` meets its contract.
-use native.Mathlib.Omega.{arith}
+use Rattle.std.proofs.Common.{arith}
 use Rattle.tables.proofs.Uses.{no_pair}
 use Rattle.tables.proofs.line.plain_row.Goals as goal
 

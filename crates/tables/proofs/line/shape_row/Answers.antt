@@ -1,6 +1,5 @@
 -- `tables::line::shape_row` meets its contract.
-use mathlib.Core.Path.{◌≡◌}
-use native.Mathlib.Omega.{arith}
+use Rattle.std.proofs.Common.{◌≡◌, arith}
 use Rattle.stored.specs.Tree.{formula_op}
 use Rattle.tables.specs.Step.{row_of}
 use Rattle.tables.proofs.Rows.{row_told}

@@ -1,9 +1,6 @@
 -- `tables::line::symbol` meets its contract.
-use mathlib.Core.Path.{◌≡◌, sym, ap}
-use native.Mathlib.Omega.{arith}
-use mathlib.Core.Logic.{inl, inr}
-use borrow.Author.Tests.{eqb-true, eqb-false}
-use lib.Dec.{eqb}
+use Rattle.std.proofs.Common.{◌≡◌, sym, ap, arith, inl, inr, eqb-true, eqb}
+use borrow.Author.Tests.{eqb-false}
 use Rattle.semantics.proofs.Tests.{test}
 use Rattle.stored.specs.Tree.{symbol_of}
 use Rattle.tables.proofs.line.symbol.Goals as goal

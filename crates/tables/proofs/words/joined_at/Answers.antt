@@ -1,6 +1,5 @@
 -- `tables::words::joined_at` meets its contract.
-use mathlib.Core.Path.{refl, sym, ◌∙◌}
-use native.Mathlib.Omega.{arith}
+use Rattle.std.proofs.Common.{refl, sym, ◌∙◌, arith}
 use Rattle.tables.specs.Table.{row_at}
 use Rattle.tables.proofs.Rows.{joined_ext, part_row}
 use Rattle.tables.proofs.words.joined_at.Goals as goal

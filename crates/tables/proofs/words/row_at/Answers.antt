@@ -1,5 +1,5 @@
 -- `tables::words::row_at` meets its contract.
-use mathlib.Core.Path.{refl}
+use Rattle.std.proofs.Common.{refl}
 use Rattle.tables.specs.Table.{row_at}
 use Rattle.tables.proofs.words.row_at.Goals as goal
 

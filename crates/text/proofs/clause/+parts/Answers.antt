@@ -1,6 +1,5 @@
 -- `text::clause::parts` meets its contract; there is one part fewer to read at each call of itself.
-use Prim.Native.Nat.{◌-◌}
-use native.Mathlib.Omega.{arith}
+use Rattle.std.proofs.Common.{◌-◌, arith}
 use Rattle.text.proofs.Clauses.{parts_none, one_took, no_comma, no_others, more_took}
 use Rattle.text.proofs.clause.+parts.Goals as goal
 

@@ -1,5 +1,5 @@
 -- `text::clause::clause` meets its contract.
-use native.Mathlib.Omega.{arith}
+use Rattle.std.proofs.Common.{arith}
 use Rattle.text.proofs.Clauses.{used-some, type_none, no_bracket, no_parts, unclosed, clause_took}
 use Rattle.text.proofs.clause.clause.Goals as goal
 

@@ -1,6 +1,5 @@
 -- `text::part::names` meets its contract.
-use Prim.Native.Nat.{◌-◌}
-use lib.ListN.{length}
+use Rattle.std.proofs.Common.{◌-◌, length}
 use Rattle.text.proofs.Parts.{SoFar}
 use Rattle.text.proofs.part.names.Given as goal
 

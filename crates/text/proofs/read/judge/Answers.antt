@@ -1,5 +1,5 @@
 -- `text::read::judge` meets its contract.
-use mathlib.Core.Path.{sym}
+use Rattle.std.proofs.Common.{sym}
 use Rattle.std.proofs.lemmas.Result.{err_from_is_err_and}
 use Rattle.propositions.specs.Nodes.{so_far}
 use Rattle.text.specs.Parts.{clauses_so_far}

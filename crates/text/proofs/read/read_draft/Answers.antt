@@ -1,5 +1,5 @@
 -- `text::read::read_draft` meets its contract.
-use mathlib.Core.Path.{◌∙◌}
+use Rattle.std.proofs.Common.{◌∙◌}
 use Rattle.text.proofs.Text.{draft_read}
 use Rattle.text.proofs.read.read_draft.Goals as goal
 

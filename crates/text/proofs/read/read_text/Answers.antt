@@ -1,7 +1,6 @@
 -- `text::read::read_text` meets its contract.
-use native.Mathlib.Omega.{arith}
+use Rattle.std.proofs.Common.{arith, sym}
 use Rattle.text.proofs.Text.{read_deep, unended_outside, unread_outside, nothing_refused, read_judged, read_whole}
-use mathlib.Core.Path.{sym}
 use Rattle.std.proofs.lemmas.Result.{err_from_is_err_and}
 use Rattle.stored.proofs.Refusals.{of_value}
 use Rattle.text.proofs.read.read_text.Goals as goal

@@ -1,5 +1,5 @@
 -- `text::sheet::ended` meets its contract.
-use mathlib.Core.Path.{sym, ap, ◌∙◌}
+use Rattle.std.proofs.Common.{sym, ap, ◌∙◌}
 use Rattle.lexer.specs.Lexed.{is_end}
 use Rattle.text.proofs.Lines.{end_next, not_end}
 use Rattle.text.proofs.sheet.ended.Goals as goal

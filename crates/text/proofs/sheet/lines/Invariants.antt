@@ -1,6 +1,5 @@
 -- `text::sheet::lines` meets its contract.
-use Prim.Native.Nat.{◌-◌}
-use lib.ListN.{length}
+use Rattle.std.proofs.Common.{◌-◌, length}
 use Rattle.text.proofs.Lines.{LinesSoFar}
 use Rattle.text.proofs.sheet.lines.Given as goal
 

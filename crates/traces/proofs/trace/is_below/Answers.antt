@@ -1,8 +1,5 @@
 -- `traces::trace::is_below` meets its contract.
-use mathlib.Core.Path.{sym}
-use native.Mathlib.Omega.{arith}
-use borrow.Author.Tests.{lt-ltb}
-use Prim.Native.Nat.{◌^◌, ◌≤◌}
+use Rattle.std.proofs.Common.{sym, arith, lt-ltb, ◌^◌, ◌≤◌}
 use native.Mathlib.Nat.{pow-le-pow_right}
 use Rattle.stored.proofs.Rules.{shift_one}
 use Rattle.traces.proofs.trace.is_below.Goals as goal

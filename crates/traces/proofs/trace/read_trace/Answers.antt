@@ -1,8 +1,6 @@
 -- `traces::trace::read_trace` meets its contract.
-use mathlib.Core.Path.{◌≡◌, sym, ◌∙◌}
-use native.Mathlib.Omega.{arith}
-use borrow.Author.Tests.{eq-eqb, ne_eqb, le-leb, lt-leb}
-use mathlib.Core.Bool.{true}
+use Rattle.std.proofs.Common.{◌≡◌, sym, ◌∙◌, arith, eq-eqb, ne_eqb, le-leb, true}
+use borrow.Author.Tests.{lt-leb}
 use Rattle.traces.specs.Trace.{cycle_count, trace_framed, trace_versioned, same_signals, cycles_right}
 use Rattle.traces.proofs.Answer.{TraceHeaded, trace_framed_long, refused10, refused11, refused12, refused13, trace_accepted}
 use Rattle.traces.proofs.trace.read_trace.Lts as lts

@@ -1,8 +1,5 @@
 -- `traces::trace::signal_column` meets its contract.
-use mathlib.Core.Path.{◌≡◌, sym, ◌∙◌, ap, ap₂}
-use native.Mathlib.Omega.{arith}
-use Prim.Native.Nat.{ℕ}
-use lib.Bits.{bit_or}
+use Rattle.std.proofs.Common.{◌≡◌, sym, ◌∙◌, ap, ap₂, arith, ℕ, bit_or}
 use Rattle.semantics.specs.Proposition.{bit}
 use Rattle.traces.specs.Columns.{signal_column}
 use Rattle.traces.proofs.Columns.{signal_none, signal_set, signal_unset}

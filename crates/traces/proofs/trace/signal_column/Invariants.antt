@@ -1,5 +1,5 @@
 -- `traces::trace::signal_column` meets its contract.
-use mathlib.Core.Path.{◌≡◌}
+use Rattle.std.proofs.Common.{◌≡◌}
 use Rattle.traces.specs.Columns.{signal_column}
 use Rattle.traces.proofs.trace.signal_column.Given as goal
 

@@ -1,6 +1,5 @@
 -- `traces::writer::put_cycles` meets its contract.
-use mathlib.Core.Path.{refl}
-use native.Mathlib.Omega.{arith}
+use Rattle.std.proofs.Common.{refl, arith}
 use Rattle.traces.specs.Written.{cycle_bytes}
 use Rattle.traces.proofs.Written.{cycles_more}
 use Rattle.traces.proofs.writer.put_cycles.Goals as goal

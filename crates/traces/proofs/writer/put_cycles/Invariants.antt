@@ -1,6 +1,5 @@
 -- `traces::writer::put_cycles` meets its contract.
-use mathlib.Core.Path.{◌≡◌}
-use lib.ListN.{take}
+use Rattle.std.proofs.Common.{◌≡◌, take}
 use lib.Seq.{sets}
 use Rattle.stored.specs.Layout.{cycles_start}
 use Rattle.traces.specs.Written.{cycle_bytes}

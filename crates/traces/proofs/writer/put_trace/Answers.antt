@@ -1,6 +1,5 @@
 -- `traces::writer::put_trace` meets its contract.
-use mathlib.Core.List.{[], ◌∷◌}
-use mathlib.Core.Path.{◌∙◌}
+use Rattle.std.proofs.Common.{[], ◌∷◌, ◌∙◌}
 use Rattle.stored.proofs.Written.{sets_then}
 use Rattle.traces.specs.Written.{cycle_bytes, trace_bytes}
 use Rattle.traces.proofs.writer.put_trace.Goals as goal
