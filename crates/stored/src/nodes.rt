@@ -52,6 +52,7 @@ pub fn sort_of(op: usize) -> Option<Sort>
     }
 }
 
+// What an op uses field q for.
 #[tactic(auto, unfolding(crate::specs::Node::q_use))]
 pub fn q_use(op: usize) -> Use
     ensures { result ≡ q_use op }
@@ -64,6 +65,7 @@ pub fn q_use(op: usize) -> Use
     }
 }
 
+// What an op uses field a for.
 #[tactic(auto, unfolding(crate::specs::Node::a_use))]
 pub fn a_use(op: usize) -> Use
     ensures { result ≡ a_use op }
@@ -80,6 +82,7 @@ pub fn a_use(op: usize) -> Use
     }
 }
 
+// What an op uses field b for.
 #[tactic(auto, unfolding(crate::specs::Node::b_use))]
 pub fn b_use(op: usize) -> Use
     ensures { result ≡ b_use op }
