@@ -36,7 +36,8 @@ fn put_clause(out: &mut [u8], map: &[usize], d: StoredClause) -> usize
     put_typed(out, d.clause_type, d1, d2, d3)
 }
 
-// The clause joined to the earlier ones on the side of its role; advice has no side and is passed over.
+// The clause joined to the earlier ones on the side of its role; advice has no side and is passed over. Sides go by document 01's numbers
+// of roles, as in `JoinedBy`.
 fn join_clause(out: &mut [u8], map: &[usize], d: StoredClause, sides: &mut [usize])
     requires { length sides.old ≡ side_count }
     ensures { JoinedBy map.now d out.old out.new sides.old sides.new }

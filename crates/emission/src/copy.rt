@@ -49,7 +49,8 @@ fn copy_node(out: &mut [u8], map: &[usize], x: Node) -> usize
 }
 
 // The map from the sheet's n nodes to the numbers of the nodes that stand for them. The count goes beside the part: what is promised is
-// of every part that holds n nodes (`NodesIn`), not of one that ends with them.
+// of every part that holds n nodes (`NodesIn`), not of one that ends with them. The map is a list of numbers, 0 past its end (`Mapped`), in
+// fixed memory.
 pub fn copy_nodes(out: &mut [u8], nodes: &[u8], n: usize) -> [usize; layout::MOST_NODES]
     requires { (Ready out.old) × (count out.old + 768 ≤ most_emitted) × (NodesIn out.old nodes.now n) }
     ensures { (Step out.old out.new (copy_costs (node_at nodes.now) n)) × (Mapped (node_at nodes.now) n out.new result) }

@@ -6,7 +6,8 @@ use crate::mark;
 use emission::copy;
 use plans::node;
 
-// The marked nodes up to the root, which is the last. The map gives the nodes that they became.
+// The marked nodes up to the root, which is the last. The map gives the numbers of the nodes that they became, as `put_copy` takes it.
+// Draft and root go side by side: a struct of them would be made in put_pruned and taken apart in two functions.
 fn keep_marked(out: &mut [u8], marks: &[bool], draft: &[u8], root: usize) -> usize
     requires drafted { Drafted draft.now root out.old }
     requires marked { MarkedFrom (node_in draft.now) root 0 marks.now }

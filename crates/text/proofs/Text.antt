@@ -1,6 +1,6 @@
 -- Laws of reading a whole text: the order of refusals, that one case applies to each text, and that what is written means what the text means.
-use Rattle.std.proofs.Common.{ℕ, ◌-◌, ◌≤◌, ◌<◌, Bool, true, false, true≢false, cond, ◌||◌, List, ◌⊎◌, inl, inr, Option, ◌≡◌, refl, sym, ap, ap₂, ◌∙◌, arith, eqb-true, eq-eqb, ltb-false, lt-ltb, le-ltb, eqb, ltb, length, take, drop, replicate, length-append, length-drop, drop_at, Result, Ok, Err}
-use mathlib.Core.Option.{none, some}
+use Rattle.std.proofs.Common.{ℕ, ◌-◌, ◌≤◌, ◌<◌, Bool, true, false, true≢false, cond, ◌||◌, List, ◌⊎◌, inl, inr, ◌≡◌, refl, sym, ap, ap₂, ◌∙◌, arith, eqb-true, eq-eqb, ltb-false, lt-ltb, le-ltb, eqb, ltb, length, take, drop, replicate, length-append, length-drop, drop_at, Result, Ok, Err}
+use mathlib.Core.Option.{Option, none, some}
 use borrow.Author.Tests.{eqb-false}
 use Rattle.semantics.specs.Proposition.{Trace}
 use Rattle.semantics.specs.Clause.{Part}
