@@ -46,7 +46,8 @@ pub fn proposition(x: Node, before: usize, n: usize, columns: &[u64], words: &[u
     }
 }
 
-// The column of a formula node's proposition, signal or first name.
+// The column of a formula node's proposition, signal or first name. What an op uses its fields for is a number of the tables in
+// `stored::nodes`: 1 a signal, 2 a name, 5 two names, 7 a proposition.
 pub fn first(x: Node, before: usize, columns: &[u64], words: &[u64]) -> u64
     requires usable { Usable x before }
     requires long_enough { (length columns.now ≡ 19) × (64 * before ≤ length words.now) }
