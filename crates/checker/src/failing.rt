@@ -116,7 +116,7 @@ pub fn first_failing(
     None
 }
 
-// The advice that fails: a byte with bit k set if clause k is such.
+// The advice that fails: a byte with bit k set if clause k is such. The loop goes over all clauses, where the one above stops.
 pub fn failing_advice(
     parts: Parts,
     columns: &mut [u64],

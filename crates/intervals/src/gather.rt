@@ -26,7 +26,8 @@ fn first_name(names: usize, cycles: [usize; 3]) -> usize
     a.min(b).min(c.min(63))
 }
 
-// The last cycle of the names in the mask, 0 if there is none.
+// The last cycle of the names in the mask, 0 if there is none. One function for both would be told the number and the method, and be
+// no shorter.
 fn last_name(names: usize, cycles: [usize; 3]) -> usize
     ensures { result ≡ last_name (bit names) (standing cycles) }
 {
