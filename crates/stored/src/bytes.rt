@@ -18,7 +18,14 @@ pub fn word(s: &[u8], k: usize) -> usize
     usize::from(u16::from_be_bytes([s[k], s[k + 1]]))
 }
 
-// Entry i of a table, 0 past its end.
+// Entry i of a table, or what is said to stand past its end.
+pub(crate) fn entry<T: Copy>(table: &[T], i: usize, past: T) -> T
+    ensures { result ≡ get_or table.now i past }
+{
+    table.get(i).copied().unwrap_or(past)
+}
+
+// The same of bytes, 0 past the end.
 pub(crate) fn listed(table: &[u8], i: usize) -> usize
     ensures { result ≡ get_or table.now i 0 }
 {

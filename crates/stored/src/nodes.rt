@@ -4,6 +4,7 @@ ghost use Rattle.stored.specs.Bytes.{every_below};
 ghost use Rattle.stored.specs.Layout.{node_size};
 ghost use Rattle.stored.specs.Node.{node_at, requirement_sorts, sort_of, q_use, a_use, b_use, is_operand, field_right, fields_right, node_right, sort_below, operand_right, operands_right, is_formula_node};
 
+use crate::bytes::entry;
 use crate::{Node, bytes, layout, ops};
 
 // What a node is.
@@ -186,7 +187,7 @@ static B_USES: [Use; 32] = [
 pub fn sort_of(op: usize) -> Option<Sort>
     ensures { result ≡ sort_of requirement_sorts op }
 {
-    SORTS.get(op).copied().unwrap_or(None)
+    entry(&SORTS, op, None)
 }
 
 // What an op uses field q for.
@@ -194,7 +195,7 @@ pub fn sort_of(op: usize) -> Option<Sort>
 pub fn q_use(op: usize) -> Use
     ensures { result ≡ q_use op }
 {
-    Q_USES.get(op).copied().unwrap_or(Use::Nothing)
+    entry(&Q_USES, op, Use::Nothing)
 }
 
 // What an op uses field a for.
@@ -202,7 +203,7 @@ pub fn q_use(op: usize) -> Use
 pub fn a_use(op: usize) -> Use
     ensures { result ≡ a_use op }
 {
-    A_USES.get(op).copied().unwrap_or(Use::Nothing)
+    entry(&A_USES, op, Use::Nothing)
 }
 
 // What an op uses field b for.
@@ -210,7 +211,7 @@ pub fn a_use(op: usize) -> Use
 pub fn b_use(op: usize) -> Use
     ensures { result ≡ b_use op }
 {
-    B_USES.get(op).copied().unwrap_or(Use::Nothing)
+    entry(&B_USES, op, Use::Nothing)
 }
 
 // Node i of a node part.
