@@ -1,12 +1,10 @@
 -- The check's answer from what was read: refused by the lowest number, or the verdict.
 use Prim.Native.Nat.{ℕ, zero, suc, ◌^◌, ◌≤◌, ◌<◌}
 use native.Mathlib.Omega.{arith}
-use mathlib.Core.Bool.{true, false}
+use mathlib.Core.Bool.{true}
 use mathlib.Core.List.{List}
 use mathlib.Core.Path.{◌≡◌, refl, sym, ap, ◌∙◌}
-use lib.Dec.{eqb}
-use lib.ListN.{length, replicate}
-use borrow.Author.Tests.{le-leb, lt-leb}
+use lib.ListN.{length}
 use Rattle.stored.specs.Layout.{least_words}
 use Rattle.semantics.specs.Proposition.{Trace}
 use Rattle.semantics.specs.Clause.{Clause}
@@ -16,7 +14,7 @@ use Rattle.semantics.proofs.Tests.{and_left, and_right}
 use Rattle.stored.specs.declared.Header.{Header}
 use Rattle.stored.specs.declared.StoredClause.{StoredClause}
 use Rattle.std.specs.Prelude.{Ok}
-use Rattle.stored.specs.Bytes.{in_order, lowest}
+use Rattle.stored.specs.Bytes.{in_order}
 use Rattle.traces.specs.Columns.{columns_of, trace_of}
 use Rattle.stored.specs.Node.{node_at, requirement_sorts}
 use Rattle.stored.specs.Clause.{stored_at, clause_of, parts_used}
