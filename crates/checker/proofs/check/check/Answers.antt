@@ -1,7 +1,6 @@
 -- `checker::check::check` meets its contract.
 use Rattle.std.proofs.Common.{sym, ◌∙◌, ap, Err}
 use Rattle.std.proofs.lemmas.Result.{err_from_is_err_and}
-use Rattle.checker.specs.Table.{words_refusal}
 use Rattle.checker.specs.Check.{check_answer, check_refusal}
 use Rattle.checker.proofs.Opened.{trace_fits, few_signals, few_cycles, given_accepted}
 use Rattle.checker.proofs.Refusals.{sheet_refuses, trace_refuses, rest_refuses, few_words, words_cleared}
