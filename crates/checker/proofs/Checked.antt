@@ -1,6 +1,5 @@
 -- The check's answer from what was read: refused by the lowest number, or the verdict.
-use Rattle.std.proofs.Common.{ℕ, zero, suc, ◌^◌, ◌≤◌, ◌<◌, arith, true, false, List, ◌≡◌, refl, sym, ap, ◌∙◌, eqb, length, replicate, le-leb, Ok}
-use borrow.Author.Tests.{lt-leb}
+use Rattle.std.proofs.Common.{ℕ, zero, suc, ◌^◌, ◌≤◌, ◌<◌, arith, true, List, ◌≡◌, refl, sym, ap, ◌∙◌, length, Ok}
 use Rattle.stored.specs.Layout.{least_words}
 use Rattle.semantics.specs.Proposition.{Trace}
 use Rattle.semantics.specs.Clause.{Clause}
@@ -9,7 +8,7 @@ use Rattle.semantics.specs.Reach.{clause_fits, all_fit}
 use Rattle.semantics.proofs.Tests.{and_left, and_right}
 use Rattle.stored.specs.declared.Header.{Header}
 use Rattle.stored.specs.declared.StoredClause.{StoredClause}
-use Rattle.stored.specs.Bytes.{in_order, lowest}
+use Rattle.stored.specs.Bytes.{in_order}
 use Rattle.traces.specs.Columns.{columns_of, trace_of}
 use Rattle.stored.specs.Node.{formula, node_at, requirement_sorts}
 use Rattle.stored.specs.Clause.{stored_at, clause_of, parts_used}

@@ -1,5 +1,5 @@
 -- The table operation from what reading the sheet and the trace answered.
-use Rattle.std.proofs.Common.{ℕ, ◌≤◌, ◌<◌, List, ◌≡◌, refl, sym, ◌∙◌, ap, Bool, true, false, eqb, length, replicate, Result, Ok, Err}
+use Rattle.std.proofs.Common.{ℕ, ◌≤◌, List, ◌≡◌, refl, sym, ◌∙◌, ap, Bool, true, false, eqb, length, replicate, Result, Ok, Err}
 use Rattle.stored.specs.Layout.{least_words}
 use Rattle.stored.specs.declared.Header.{Header}
 use Rattle.stored.specs.declared.refusal.Refusal.{Refusal}
@@ -12,7 +12,7 @@ use Rattle.stored.specs.Sheet.{header_of, node_part, nodes_of, sheet_answer}
 use Rattle.traces.specs.Trace.{cycle_count, cycles_of, trace_answer}
 use Rattle.stored.proofs.Accepted.{answer_accepted}
 use Rattle.traces.proofs.Accepted.{cycles_accepted}
-use Rattle.checker.specs.Table.{placement_of, table_of, node_refusal, or_else, words_refusal, table_refusal, table_answer, table_words, words_after}
+use Rattle.checker.specs.Table.{placement_of, table_of, node_refusal, words_refusal, table_refusal, table_answer, table_words, words_after}
 use Rattle.checker.proofs.Opened.{cycled_as, told_accepted}
 use Rattle.checker.proofs.Refusals.{or_second, words_many, after_trace}
 

@@ -1,5 +1,5 @@
 -- What acceptance says, opened into one record, and what crates above need of an accepted sheet.
-use Rattle.std.proofs.Common.{ℕ, zero, suc, ◌*◌, ◌^◌, ◌≤◌, ◌<◌, Bool, true, false, ◌&&◌, List, inl, inr, ◌≡◌, refl, sym, subst, arith, ltb-true, leb-true, eqb-true, leb, ltb, eqb, length, length-take, length-drop, Ok, Err}
+use Rattle.std.proofs.Common.{ℕ, zero, suc, ◌*◌, ◌^◌, ◌≤◌, ◌<◌, Bool, true, false, ◌&&◌, List, inl, inr, ◌≡◌, refl, subst, arith, ltb-true, leb-true, eqb-true, leb, ltb, length, length-take, length-drop, Ok, Err}
 use mathlib.Core.Bool.{false≢true}
 use native.Mathlib.Nat.{pow-le-pow_right}
 use Rattle.stored.specs.Layout.{clauses_end, node_size, clause_size}
@@ -12,7 +12,7 @@ use Rattle.stored.specs.declared.Header.{Header}
 use Rattle.stored.specs.declared.refusal.Refusal.{Refusal}
 use Rattle.stored.specs.Bytes.{in_order}
 use Rattle.stored.specs.Node.{requirement_sorts, is_formula_node, node_right, formula}
-use Rattle.stored.specs.Tree.{formula_at, pick}
+use Rattle.stored.specs.Tree.{formula_at}
 use Rattle.stored.specs.Refusal.{number_of}
 use Rattle.stored.specs.Clause.{last_role, parts_used, part_right, clause_right, part_named, clause_named, clause_right_at, clause_named_at, type_of, part_of, clause_of}
 use Rattle.stored.specs.Sheet.{header_of, node_part, clause_part, nodes_of, stored_of, counted, sized, nodes_right, operands_found, clauses_right, clauses_named, sheet_rules, sheet_refusal, sheet_answer, clause_in, clauses_of}

@@ -1,5 +1,5 @@
 -- Refusals and their numbers, and what an answer says of the number behind it.
-use Rattle.std.proofs.Common.{◌≡◌, ℕ, zero, suc, ◌≤◌, ◌<◌, Bool, true, false, eqb, Result, Ok, Err, refl, sym, ◌∙◌, ap, arith, eqb-true, eq-eqb, ne_eqb}
+use Rattle.std.proofs.Common.{◌≡◌, ℕ, zero, suc, ◌≤◌, Bool, true, false, eqb, Ok, Err, refl, sym, ◌∙◌, ap, arith, eqb-true, ne_eqb}
 use borrow.Author.Tests.{eqb-false}
 use Rattle.stored.specs.declared.refusal.Refusal.{Refusal}
 use Rattle.stored.specs.declared.refusal.Refusal.TheVariants.{SheetNotFramed, UnknownSheetVersion, NotARequirement, CountOutOfRange, WrongSheetLength, InvalidNode, InvalidOperand, InvalidClause, UnlistedName, TraceNotFramed, UnknownTraceVersion, OtherSignals, InvalidCycles, ShortOutput, FewWords, NotAFormula, NameOffTrace, TooDeep, OutsideGrammar, TooLarge, InvalidCycle, BoardFull}

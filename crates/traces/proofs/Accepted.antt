@@ -1,5 +1,5 @@
 -- What acceptance of a trace says, opened into one record, and what crates above need of it.
-use Rattle.std.proofs.Common.{ℕ, ◌+◌, ◌*◌, ◌^◌, ◌≤◌, ◌<◌, Bool, true, false, ◌&&◌, List, inl, inr, ◌≡◌, refl, sym, arith, ltb-true, leb-true, eqb-true, leb, eqb, length, get_or, Ok, Err}
+use Rattle.std.proofs.Common.{ℕ, ◌+◌, ◌*◌, ◌^◌, ◌≤◌, ◌<◌, ◌&&◌, List, inl, inr, ◌≡◌, arith, ltb-true, leb-true, eqb-true, leb, eqb, length, get_or, Ok, Err}
 use Rattle.semantics.proofs.Tests.{and_left, and_right}
 use Rattle.stored.proofs.Rules.{lowest_law, every_at, lowest_kept, length_in_order, get_or_in_order}
 use Rattle.stored.specs.declared.refusal.Refusal.{Refusal}

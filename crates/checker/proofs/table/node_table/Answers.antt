@@ -1,5 +1,5 @@
 -- `checker::table::node_table` meets its contract.
-use Rattle.std.proofs.Common.{refl, sym, ap, ◌∙◌, Ok, arith, ℕ, List, eqb-true, get_or}
+use Rattle.std.proofs.Common.{refl, sym, ap, ◌∙◌, Ok, arith, ℕ, List, get_or}
 use Rattle.stored.specs.Node.{formula, node_at, requirement_sorts, is_formula_node}
 use Rattle.traces.specs.Columns.{trace_of}
 use Rattle.stored.proofs.Sorts.{same_sort-true}
