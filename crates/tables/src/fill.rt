@@ -52,8 +52,9 @@ fn put_joined(x: Node, n: usize, before: &[u64], own: &mut [u64])
     }
 }
 
-// The rows of a chop below n. They are cleared by a plain loop: with std's `fill` sheets of chops took up to 1.3 times as long, by where
-// the loop after it then stood.
+// The rows of a chop below n. They are cleared by a plain loop: with std's `fill` sheets of chops took up to 1.4 times as long, by where
+// the loop after it then stood. Not inlined, so that other code doesn't move that loop.
+#[inline(never)]
 fn put_chop(x: Node, n: usize, before: &[u64], own: &mut [u64])
     requires operands { (64 * x.a + 64 ≤ length before.now) × (64 * x.b + 64 ≤ length before.now) }
     requires long_enough { (n ≤ 64) × (64 ≤ length own.old) }
