@@ -4,10 +4,40 @@ ghost use Rattle.stored.specs.Bytes.{every_below};
 ghost use Rattle.stored.specs.Layout.{node_size, clause_size, most_nodes};
 ghost use Rattle.stored.specs.Node.{node_at};
 ghost use Rattle.stored.specs.Reach.{reach_table};
-ghost use Rattle.stored.specs.Clause.{stored_at, parts_used, part_right, clause_right, clause_right_at, part_covered, clause_covered, clause_covered_at};
+ghost use Rattle.stored.specs.Types.{type_stored};
+ghost use Rattle.stored.specs.Clause.{type_of, stored_at, parts_used, part_right, clause_right, clause_right_at, part_covered, clause_covered, clause_covered_at};
 
 use crate::bytes::listed;
 use crate::{StoredClause, bytes, layout, masks, nodes};
+
+// The types of clauses, with the numbers that document 01 gives them.
+#[derive(Clone, Copy)]
+pub enum ClauseType {
+    Pref = 1,
+    Init = 2,
+    Anti = 3,
+    Implies = 4,
+    Follows = 5,
+    Triggers = 6,
+}
+
+// Any number has a type, as a clause's meaning has it: one that document 01 gives to none stands for the first. A `TryFrom` would have an
+// Err that nobody can take, since rule 8 keeps the numbers of a sheet from 1 to 6.
+impl From<usize> for ClauseType {
+    ghost from_gives = { λ number clause_type. type_stored clause_type ≡ type_of number };
+
+    #[tactic(auto, unfolding(crate::specs::Clause::type_of))]
+    fn from(number: usize) -> ClauseType {
+        match number {
+            2 => ClauseType::Init,
+            3 => ClauseType::Anti,
+            4 => ClauseType::Implies,
+            5 => ClauseType::Follows,
+            6 => ClauseType::Triggers,
+            _ => ClauseType::Pref,
+        }
+    }
+}
 
 // The roles by their numbers.
 pub const ASSUMPTION: usize = 0;
