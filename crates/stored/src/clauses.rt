@@ -4,7 +4,7 @@ ghost use Rattle.stored.specs.Bytes.{every_below};
 ghost use Rattle.stored.specs.Layout.{node_size, clause_size, most_nodes};
 ghost use Rattle.stored.specs.Node.{node_at};
 ghost use Rattle.stored.specs.Reach.{reach_table};
-ghost use Rattle.stored.specs.Types.{type_stored};
+ghost use Rattle.stored.specs.Types.{type_stored, role_number};
 ghost use Rattle.stored.specs.Clause.{type_of, stored_at, parts_used, part_right, clause_right, clause_right_at, part_covered, clause_covered, clause_covered_at};
 
 use crate::bytes::listed;
@@ -39,12 +39,21 @@ impl From<usize> for ClauseType {
     }
 }
 
-// The roles by their numbers.
-pub const ASSUMPTION: usize = 0;
+// The roles, with the numbers that document 01 gives them. A stored byte may be any number, so it is compared with a role's and made none.
+#[derive(Clone, Copy)]
+pub enum Role {
+    Assumption = 0,
+    Commitment = 1,
+    Advice = 2,
+}
 
-pub const COMMITMENT: usize = 1;
+impl From<Role> for usize {
+    ghost from_gives = { λ role number. number ≡ role_number role };
 
-pub const ADVICE: usize = 2;
+    fn from(role: Role) -> usize {
+        role as usize
+    }
+}
 
 // How many parts each type uses; there is no type 0.
 static PARTS: [u8; 7] = [0, 1, 2, 1, 2, 3, 3];
@@ -104,7 +113,7 @@ fn clause_ok(nodes: &[u8], n: usize, d: StoredClause) -> bool
 {
     let used = parts_used(d.clause_type);
     (1..=6).contains(&d.clause_type)
-        && d.role <= ADVICE
+        && d.role <= usize::from(Role::Advice)
         && part_ok(nodes, n, 0 < used, d.root1, d.mask1)
         && part_ok(nodes, n, 1 < used, d.root2, d.mask2)
         && part_ok(nodes, n, 2 < used, d.root3, d.mask3)
