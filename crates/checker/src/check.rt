@@ -9,7 +9,7 @@ ghost use Rattle.checker.specs.Check.{told, told_whole, check_answer, check_refu
 ghost use Rattle.checker.specs.Clauses.{LaidOver, Sounds, clause_at, place_of};
 
 use crate::failing::{Parts, Sizes, failing_advice, first_failing};
-use stored::clauses::{ASSUMPTION, COMMITMENT};
+use stored::clauses::Role;
 use stored::layout::LEAST_WORDS;
 use stored::masks::reach_table;
 use stored::refusal::Refusal;
@@ -60,11 +60,11 @@ fn finding_over(parts: Parts, columns: &mut [u64], words: &mut [u64], rows: &mut
     requires sounds { Sounds parts.nodes.now parts.sizes.nodes parts.clauses.now parts.sizes.clauses × (length rows.old ≡ 64) }
     ensures { result ≡ told (finding_of (in_order parts.entry.sizes.clauses (clause_at parts.entry.nodes.now parts.entry.clauses.now)) (trace_of parts.entry.sizes.cycles columns.old)) }
 {
-    let assumption = first_failing(ASSUMPTION, parts, columns, words, rows);
+    let assumption = first_failing(Role::Assumption, parts, columns, words, rows);
     match assumption {
         Some(failing) => Finding::Excused(failing.clause),
         None => {
-            let commitment = first_failing(COMMITMENT, parts, columns, words, rows);
+            let commitment = first_failing(Role::Commitment, parts, columns, words, rows);
             match commitment {
                 Some(failing) => Finding::Broken(place_of(failing.clause, failing.place)),
                 None => Finding::Holds,

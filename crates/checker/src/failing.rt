@@ -4,7 +4,8 @@ ghost use Rattle.semantics.specs.Clause.{breaks};
 ghost use Rattle.semantics.specs.Verdict.{advice_of};
 ghost use Rattle.stored.specs.Bytes.{in_order};
 ghost use Rattle.stored.specs.Node.{node_at};
-ghost use Rattle.stored.specs.Clause.{last_role, clause_of, role_of};
+ghost use Rattle.stored.specs.Types.{role_number};
+ghost use Rattle.stored.specs.Clause.{clause_of, role_of};
 ghost use Rattle.traces.specs.Columns.{trace_of};
 ghost use Rattle.intervals.specs.Places.{places, numbered, IsLeast};
 ghost use Rattle.checker.specs.Clauses.{LaidOver, Sound, Sounds, clause_at, PlaceIs, FailingIs};
@@ -13,7 +14,7 @@ use intervals::search::PLACES;
 use places::task::task_of;
 use places::walk::{Aim, Job, Spot, walk};
 use stored::StoredClause;
-use stored::clauses::{ADVICE, stored_at};
+use stored::clauses::{Role, stored_at};
 
 // A failing clause, with the number of its first broken place.
 #[derive(Clone, Copy)]
@@ -72,7 +73,7 @@ fn clause_place(
 
 // The number of clause k's first broken place, if it has the role and fails.
 fn role_place(
-    role: usize,
+    role: Role,
     k: usize,
     parts: Parts,
     columns: &mut [u64],
@@ -80,13 +81,14 @@ fn role_place(
     rows: &mut [u64],
 ) -> Option<usize>
     requires laid { LaidOver parts (trace_of parts.sizes.cycles columns.old) columns.old words.old }
-    requires known_role { (role ≤ last_role) × (k < parts.sizes.clauses) × Sounds parts.nodes.now parts.sizes.nodes parts.clauses.now parts.sizes.clauses × (length rows.old ≡ 64) }
+    requires sounds { (k < parts.sizes.clauses) × Sounds parts.nodes.now parts.sizes.nodes parts.clauses.now parts.sizes.clauses × (length rows.old ≡ 64) }
     ensures still_laid { LaidOver parts.entry (trace_of parts.entry.sizes.cycles columns.old) columns.new words.new }
     ensures rows_long { length rows.new ≡ 64 }
-    ensures place_is { PlaceIs (role_of role) (clause_at parts.entry.nodes.now parts.entry.clauses.now k) (trace_of parts.entry.sizes.cycles columns.old) result }
+    ensures place_is { PlaceIs (role_of (role_number role)) (clause_at parts.entry.nodes.now parts.entry.clauses.now k) (trace_of parts.entry.sizes.cycles columns.old) result }
 {
     let d = stored_at(parts.clauses, k);
-    if d.role != role {
+    let number = usize::from(role);
+    if d.role != number {
         return None;
     }
     let place = clause_place(d, parts, columns, words, rows);
@@ -95,17 +97,17 @@ fn role_place(
 
 // The first clause with the role that fails.
 pub fn first_failing(
-    role: usize,
+    role: Role,
     parts: Parts,
     columns: &mut [u64],
     words: &mut [u64],
     rows: &mut [u64],
 ) -> Option<Failing>
     requires laid { LaidOver parts (trace_of parts.sizes.cycles columns.old) columns.old words.old }
-    requires known_role { (role ≤ last_role) × Sounds parts.nodes.now parts.sizes.nodes parts.clauses.now parts.sizes.clauses × (length rows.old ≡ 64) }
+    requires sounds { Sounds parts.nodes.now parts.sizes.nodes parts.clauses.now parts.sizes.clauses × (length rows.old ≡ 64) }
     ensures still_laid { LaidOver parts.entry (trace_of parts.entry.sizes.cycles columns.old) columns.new words.new }
     ensures rows_long { length rows.new ≡ 64 }
-    ensures failing_is { FailingIs (role_of role) (clause_at parts.entry.nodes.now parts.entry.clauses.now) parts.entry.sizes.clauses (trace_of parts.entry.sizes.cycles columns.old) result }
+    ensures failing_is { FailingIs (role_of (role_number role)) (clause_at parts.entry.nodes.now parts.entry.clauses.now) parts.entry.sizes.clauses (trace_of parts.entry.sizes.cycles columns.old) result }
 {
     for k in 0..parts.sizes.clauses {
         let found = role_place(role, k, parts, columns, words, rows);
@@ -131,7 +133,7 @@ pub fn failing_advice(
 {
     let mut advice = 0;
     for number in 0..parts.sizes.clauses {
-        let found = role_place(ADVICE, number, parts, columns, words, rows);
+        let found = role_place(Role::Advice, number, parts, columns, words, rows);
         if found.is_some() {
             advice |= 1usize << number;
         }

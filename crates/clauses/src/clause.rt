@@ -10,6 +10,7 @@ ghost use Rattle.clauses.specs.Clauses.{broken_over};
 use crate::placing::{besides, both, put_once, put_placed};
 use emission::shared::{ANYWHERE, EXTENDED};
 use plans::node::{Op, put};
+use stored::clauses::ClauseType;
 
 // A part of a clause: a node with a mask of the names that it has.
 #[derive(Clone, Copy)]
@@ -17,17 +18,6 @@ pub struct Part {
     pub node: usize,
     pub names: usize,
 }
-
-// The types of clauses by document 01's numbers.
-const INIT: usize = 2;
-
-const ANTI: usize = 3;
-
-const IMPLIES: usize = 4;
-
-const FOLLOWS: usize = 5;
-
-const TRIGGERS: usize = 6;
 
 fn put_pref(out: &mut [u8], d1: Part) -> usize
     ensures { Wrote out.old out.new result (broken_over pref d1 d1 d1) }
@@ -118,17 +108,16 @@ fn put_triggers(out: &mut [u8], d1: Part, d2: Part, d3: Part) -> usize
     put(out, Op::Chop(ANYWHERE, placed))
 }
 
-// By the type's number, as document 01 stores it: the enum of types is the check's, which the translator doesn't use.
-#[tactic(auto, unfolding(stored::specs::Clause::type_of, semantics::specs::Translation::broken_of))]
+// By the type's number, as document 01 stores it.
 pub fn put_typed(out: &mut [u8], clause_type: usize, d1: Part, d2: Part, d3: Part) -> usize
     ensures { Wrote out.old out.new result (broken_over (type_of clause_type) d1 d2 d3) }
 {
-    match clause_type {
-        INIT => put_init(out, d1, d2),
-        ANTI => put_anti(out, d1),
-        IMPLIES => put_implies(out, d1, d2),
-        FOLLOWS => put_follows(out, d1, d2, d3),
-        TRIGGERS => put_triggers(out, d1, d2, d3),
-        _ => put_pref(out, d1),
+    match ClauseType::from(clause_type) {
+        ClauseType::Pref => put_pref(out, d1),
+        ClauseType::Init => put_init(out, d1, d2),
+        ClauseType::Anti => put_anti(out, d1),
+        ClauseType::Implies => put_implies(out, d1, d2),
+        ClauseType::Follows => put_follows(out, d1, d2, d3),
+        ClauseType::Triggers => put_triggers(out, d1, d2, d3),
     }
 }

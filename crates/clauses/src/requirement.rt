@@ -11,10 +11,11 @@ ghost use Rattle.clauses.specs.Clauses.{ClausesIn, side_count, broken_in, Joined
 use crate::clause::{Part, put_typed};
 use emission::{copy, shared};
 use plans::node::{Op, put};
+use stored::clauses::Role;
 use stored::{StoredClause, clauses, masks};
 
 // The roles that the formula speaks of: assumption and commitment.
-const SIDES: usize = clauses::COMMITMENT + 1;
+const SIDES: usize = Role::Commitment as usize + 1;
 
 // A part of a clause over the copies.
 fn copied_part(map: &[usize], root: usize, names: usize) -> Part
@@ -61,8 +62,8 @@ pub fn put_requirement(out: &mut [u8], nodes: &[u8], n: usize, clauses: &[u8], c
     for k in 0..c {
         join_clause(out, &map, clauses::stored_at(clauses, k), &mut sides);
     }
-    let assumed = sides[clauses::ASSUMPTION];
-    let committed = sides[clauses::COMMITMENT];
+    let assumed = sides[Role::Assumption as usize];
+    let committed = sides[Role::Commitment as usize];
     let kept = put(out, Op::Not(committed));
     put(out, Op::Or(assumed, kept))
 }

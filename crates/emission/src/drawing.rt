@@ -1,6 +1,5 @@
 // Drawings told by other formulas.
 ghost use Rattle.std.specs.Prelude.{◌≡◌, ◌<◌};
-ghost use Rattle.rows.specs.Symbols as symbols;
 ghost use Rattle.semantics.specs.Proposition.{signal, negated};
 ghost use Rattle.semantics.specs.Formula.{slen, at_least, steady};
 ghost use Rattle.semantics.specs.Translation.{undrawn_symbol, undrawn_mark, undrawn_gap};
@@ -31,27 +30,11 @@ fn put_steady(out: &mut [u8], k: usize) -> usize
     put(out, Op::Or(all_low, all_high))
 }
 
-// The symbol with document 01's number q; a number that is none stands for the first.
-#[tactic(auto, unfolding(stored::specs::Tree::symbol_of))]
-fn symbol_numbered(q: usize) -> Symbol
-    ensures { symbols.symbol_of result ≡ symbol_of q }
-{
-    match q {
-        1 => Symbol::High,
-        2 | 3 => Symbol::Either,
-        4 => Symbol::LowStretch,
-        5 => Symbol::HighStretch,
-        6 => Symbol::EitherStretch,
-        7 => Symbol::Steady,
-        _ => Symbol::Low,
-    }
-}
-
 // Symbol q on signal k.
 pub fn put_symbol(out: &mut [u8], q: usize, k: usize) -> usize
     ensures { Wrote out.old out.new result (undrawn_symbol (symbol_of q) k) }
 {
-    match symbol_numbered(q) {
+    match Symbol::from(q) {
         Symbol::Low => {
             let low = put_low(out, k);
             put(out, Op::Unit(low))

@@ -3,16 +3,11 @@ use Rattle.std.specs.Prelude.{ℕ, ◌≤◌, ◌<◌, Bool, true, false, not, �
 use Rattle.semantics.specs.Cycles.{some_in}
 use Rattle.semantics.specs.Proposition.{bit}
 use Rattle.semantics.specs.Clause as clause
-use Rattle.intervals.specs.declared.search.ClauseType.{ClauseType}
-use Rattle.intervals.specs.declared.search.ClauseType.TheVariants.{Pref, Init, Anti, Implies, Follows, Triggers}
+use Rattle.stored.specs.Types.{type_stored}
+use Rattle.stored.specs.declared.clauses.ClauseType.{ClauseType}
 
 abbrev pub type_of : ClauseType → clause.ClauseType
-type_of Pref = clause.pref
-type_of Init = clause.init
-type_of Anti = clause.anti
-type_of Implies = clause.implies
-type_of Follows = clause.follows
-type_of Triggers = clause.triggers
+type_of type = type_stored type
 
 -- bit e of row b
 unfoldable pub test_of : List ℕ → ℕ → ℕ → Bool

@@ -8,17 +8,7 @@ ghost use Rattle.intervals.specs.Places.{numbered, IsLeast};
 ghost use Rattle.intervals.specs.Rows.{type_of, test_of, starting, ending, unreplied, Next};
 
 use rows::mask::{before_first, below, cycles_from, only, up_to};
-
-// The types of clauses.
-#[derive(Clone, Copy)]
-pub enum ClauseType {
-    Pref,
-    Init,
-    Anti,
-    Implies,
-    Follows,
-    Triggers,
-}
+use stored::clauses::ClauseType;
 
 // One more than the largest number of a place.
 pub const PLACES: usize = 262144;

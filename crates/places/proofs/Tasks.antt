@@ -4,6 +4,7 @@ use mathlib.Core.Path.{fun_ext}
 use lib.Bits.{or_lt}
 use Rattle.semantics.specs.Proposition.{Trace, bit}
 use Rattle.semantics.specs.Placement.{Names, union, Placement, unplaced, some_placement}
+use Rattle.semantics.specs.Clause as clause
 use Rattle.semantics.specs.Clause.{Part, breaks}
 use Rattle.semantics.specs.Reach.{clause_fits}
 use Rattle.stored.specs.declared.Node.{Node}
@@ -32,6 +33,23 @@ pub record Masks (d : StoredClause) : Type 0 where
 abbrev pub fields : ℕ → StoredClause → StoredClause
 fields k d =
     record { clause_type = k; role = d.role; root1 = d.root1; root2 = d.root2; root3 = d.root3; mask1 = d.mask1; mask2 = d.mask2; mask3 = d.mask3 }
+
+-- the number of a type
+abbrev number_of : clause.ClauseType → ℕ
+number_of clause.pref = 1
+number_of clause.init = 2
+number_of clause.anti = 3
+number_of clause.implies = 4
+number_of clause.follows = 5
+number_of clause.triggers = 6
+
+number_back : (k : ℕ) → 1 ≤ k → k ≤ 6 → number_of (stored.type_of k) ≡ k
+unfolding stored.type_of
+number_back = type_cases (λ k. number_of (stored.type_of k) ≡ k) refl refl refl refl refl refl
+
+pub task_typed : (d : StoredClause) (κ : clause.ClauseType) → κ ≡ stored.type_of d.clause_type → 1 ≤ d.clause_type → d.clause_type ≤ 6
+    → task_of (fields (number_of κ) d) ≡ task_of d
+task_typed d κ e l h = ap (λ k. task_of (fields k d)) (ap number_of e ∙ number_back d.clause_type l h)
 
 task_quantified : (d : StoredClause) → 1 ≤ d.clause_type → d.clause_type ≤ 6
     → bit (task_of d).quantified ≡ quantified (stored.type_of d.clause_type) (bit d.mask1) (bit d.mask2) (bit d.mask3)

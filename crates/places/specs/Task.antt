@@ -6,8 +6,8 @@ use Rattle.semantics.specs.Placement.{Placement}
 use Rattle.stored.specs.declared.Node.{Node}
 use Rattle.stored.specs.declared.StoredClause.{StoredClause}
 use Rattle.stored.specs.Clause.{part_of}
-use Rattle.intervals.specs.declared.search.ClauseType.{ClauseType}
-use Rattle.intervals.specs.declared.search.ClauseType.TheVariants.{Pref, Init, Anti, Implies, Follows, Triggers}
+use Rattle.stored.specs.declared.clauses.ClauseType.{ClauseType}
+use Rattle.stored.specs.declared.clauses.ClauseType.TheVariants.{Pref, Init, Anti, Implies, Follows, Triggers}
 use Rattle.places.specs.declared.task.Task.{Task}
 use Rattle.places.specs.declared.task.Part.{Part}
 use Rattle.intervals.specs.Search.{on_inside, short_inside, answered, missed}

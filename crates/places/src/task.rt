@@ -2,8 +2,8 @@
 ghost use Rattle.std.specs.Prelude.{◌≡◌, ◌≤◌};
 ghost use Rattle.places.specs.Task.{task_over, task_of};
 
-use intervals::search::ClauseType;
 use stored::StoredClause;
+use stored::clauses::ClauseType;
 
 // The nodes of the part that a clause starts from, of Ξ's part and of the part that answers, each with a mask of those of its names
 // that no part before it lists; and the names that are quantified universally.
@@ -48,7 +48,7 @@ fn task_over(
     }
 }
 
-// The types by their numbers. One without Ξ's part takes the first part there: it says nothing.
+// A type without Ξ's part takes the first part there: it says nothing.
 pub fn task_of(d: StoredClause) -> Task
     requires { (1 ≤ d.clause_type) × (d.clause_type ≤ 6) }
     ensures { result ≡ task_of d }
@@ -66,12 +66,12 @@ pub fn task_of(d: StoredClause) -> Task
         names: d.mask3 & !d.mask1,
     };
     let both = d.mask1 | d.mask3;
-    match d.clause_type {
-        1 => task_over(ClauseType::Pref, one, one, one, 0),
-        2 => task_over(ClauseType::Init, two, one, one, d.mask2),
-        3 => task_over(ClauseType::Anti, one, one, one, d.mask1),
-        4 => task_over(ClauseType::Implies, one, one, two, d.mask1),
-        5 => task_over(ClauseType::Follows, one, three, two, both),
-        _ => task_over(ClauseType::Triggers, one, three, two, both),
+    match ClauseType::from(d.clause_type) {
+        ClauseType::Pref => task_over(ClauseType::Pref, one, one, one, 0),
+        ClauseType::Init => task_over(ClauseType::Init, two, one, one, d.mask2),
+        ClauseType::Anti => task_over(ClauseType::Anti, one, one, one, d.mask1),
+        ClauseType::Implies => task_over(ClauseType::Implies, one, one, two, d.mask1),
+        ClauseType::Follows => task_over(ClauseType::Follows, one, three, two, both),
+        ClauseType::Triggers => task_over(ClauseType::Triggers, one, three, two, both),
     }
 }

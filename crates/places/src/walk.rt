@@ -12,7 +12,8 @@ ghost use Rattle.intervals.specs.Search.{premised};
 
 use crate::task::Task;
 use intervals::gather::add;
-use intervals::search::{ClauseType, search};
+use intervals::search::search;
+use stored::clauses::ClauseType;
 use stored::masks::has_name;
 use tables::fill::lay;
 use tables::words::clear;

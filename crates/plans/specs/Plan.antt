@@ -3,8 +3,7 @@
 use Rattle.std.specs.Prelude.{ℕ, suc, ◌+◌, ◌*◌, Bool, cond, ◌&&◌, List, ◌≡◌, leb, ltb, length}
 use Rattle.semantics.specs.Proposition.{Proposition, signal, name, negated}
 use Rattle.semantics.specs.Formula.{Formula, point, stretch, unit, chop, conjunction, disjunction, slen, scount, at, negation, for_some, at_most, equal, at_least, above}
-use Rattle.rows.specs.declared.count.Comparison as rows
-use Rattle.rows.specs.declared.count.Comparison.TheVariants as compared
+use Rattle.rows.specs.Symbols.{comparison_number}
 use Rattle.stored.specs.declared.Node.{Node}
 use Rattle.plans.specs.declared.node.Op.{Op}
 use Rattle.plans.specs.declared.node.Op.TheVariants as op
@@ -72,13 +71,6 @@ q_above = 4
 
 abbrev pub node : ℕ → ℕ → ℕ → ℕ → Node
 node op q a b = record { op = op; q = q; a = a; b = b }
-
-abbrev pub comparison_number : rows.Comparison → ℕ
-comparison_number compared.Below = q_below
-comparison_number compared.AtMost = q_at_most
-comparison_number compared.Equal = q_equal
-comparison_number compared.AtLeast = q_at_least
-comparison_number compared.Above = q_above
 
 -- the node of an op with what it takes
 abbrev pub node_of : Op → Node

@@ -1,6 +1,6 @@
 // One node more of the sheet that is being written.
 ghost use Rattle.std.specs.Prelude.{◌≡◌};
-ghost use Rattle.plans.specs.Plan.{fits, comparison_number, node_of, Put};
+ghost use Rattle.plans.specs.Plan.{fits, node_of, Put};
 
 use rows::count::Comparison;
 use stored::{Node, bytes, layout, ops, writer};
@@ -30,19 +30,6 @@ pub enum Op {
     Column(usize, usize),
 }
 
-// A comparison as field q has it.
-fn comparison_number(comparison: Comparison) -> usize
-    ensures { result ≡ comparison_number comparison }
-{
-    match comparison {
-        Comparison::Below => ops::BELOW,
-        Comparison::AtMost => ops::AT_MOST,
-        Comparison::Equal => ops::EQUAL,
-        Comparison::AtLeast => ops::AT_LEAST,
-        Comparison::Above => ops::ABOVE,
-    }
-}
-
 impl From<Op> for Node {
     ghost from_gives = { λ op x. x ≡ node_of op };
 
@@ -57,8 +44,8 @@ impl From<Op> for Node {
             Op::Chop(a, b) => (ops::CHOP, 0, a, b),
             Op::And(a, b) => (ops::AND, 0, a, b),
             Op::Or(a, b) => (ops::OR, 0, a, b),
-            Op::Length(c, n) => (ops::SLEN, comparison_number(c), 0, n),
-            Op::Count(c, a, n) => (ops::SCOUNT, comparison_number(c), a, n),
+            Op::Length(c, n) => (ops::SLEN, usize::from(c), 0, n),
+            Op::Count(c, a, n) => (ops::SCOUNT, usize::from(c), a, n),
             Op::Not(a) => (ops::NOT, 0, a, 0),
             Op::Column(u, a) => (ops::SOME, 0, a, u),
         };

@@ -4,18 +4,42 @@ ghost use Rattle.semantics.specs.Cycles.{count_from, count_in};
 ghost use Rattle.semantics.specs.Proposition.{bit};
 ghost use Rattle.semantics.specs.Formula.{compared, at_least, above};
 ghost use Rattle.rows.specs.Row.{row};
-ghost use Rattle.rows.specs.Symbols.{comparison_of, counted_to, After, Distant, Counted};
+ghost use Rattle.rows.specs.Symbols.{comparison_of, comparison_number, comparison_numbered, counted_to, After, Distant, Counted};
 
 use crate::mask::{ALL, below, cycles_from, up_to};
 
-// <, ≤, =, ≥, >
+// <, ≤, =, ≥, > with the numbers that document 01 gives them.
 #[derive(Clone, Copy)]
 pub enum Comparison {
-    Below,
-    AtMost,
-    Equal,
-    AtLeast,
-    Above,
+    Below = 0,
+    AtMost = 1,
+    Equal = 2,
+    AtLeast = 3,
+    Above = 4,
+}
+
+impl From<Comparison> for usize {
+    ghost from_gives = { λ comparison q. q ≡ comparison_number comparison };
+
+    fn from(comparison: Comparison) -> usize {
+        comparison as usize
+    }
+}
+
+// Any number has a comparison, as the meanings of nodes say it: one that document 01 gives to none stands for the first. A `TryFrom`
+// would have an Err that nobody can take, since rule 6 keeps the numbers of a sheet below 5.
+impl From<usize> for Comparison {
+    ghost from_gives = { λ q comparison. comparison_of comparison ≡ comparison_numbered q };
+
+    fn from(q: usize) -> Comparison {
+        match q {
+            1 => Comparison::AtMost,
+            2 => Comparison::Equal,
+            3 => Comparison::AtLeast,
+            4 => Comparison::Above,
+            _ => Comparison::Below,
+        }
+    }
 }
 
 // The cycles e from b on, and others before it, where the column has more than `number` cycles from b to e, e itself counted if `last`

@@ -4,7 +4,7 @@ ghost use Rattle.semantics.specs.Cycles.{every_from, every_in};
 ghost use Rattle.semantics.specs.Proposition.{bit};
 ghost use Rattle.semantics.specs.Formula.{drawn_on};
 ghost use Rattle.rows.specs.Row.{word, row};
-ghost use Rattle.rows.specs.Symbols.{symbol_of};
+ghost use Rattle.rows.specs.Symbols.{symbol_of, symbol_numbered};
 
 use crate::mask::{ALL, before_first, below, cycles_from, has, only, up_to_first};
 
@@ -18,6 +18,24 @@ pub enum Symbol {
     HighStretch,
     EitherStretch,
     Steady,
+}
+
+// Any number has a symbol, as any has a comparison: rule 6 keeps the numbers of a sheet below 8. There is no way back from a symbol, since
+// `Either` has two numbers.
+impl From<usize> for Symbol {
+    ghost from_gives = { λ q symbol. symbol_of symbol ≡ symbol_numbered q };
+
+    fn from(q: usize) -> Symbol {
+        match q {
+            1 => Symbol::High,
+            2 | 3 => Symbol::Either,
+            4 => Symbol::LowStretch,
+            5 => Symbol::HighStretch,
+            6 => Symbol::EitherStretch,
+            7 => Symbol::Steady,
+            _ => Symbol::Low,
+        }
+    }
 }
 
 // The cycles from b on that a column lacks.

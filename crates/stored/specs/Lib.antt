@@ -3,6 +3,7 @@ pub mod Layout
 pub mod Bytes
 pub mod Node
 pub mod Tree
+pub mod Types
 pub mod Reach
 pub mod Clause
 pub mod Refusal

@@ -2,7 +2,8 @@
 -- read alike, and serves both kinds.
 use Rattle.std.specs.Prelude.{ℕ, zero, suc, ◌/◌, ◌%◌, Bool, true, false, List, [], ◌∷◌, ltb, get_or}
 use Rattle.semantics.specs.Proposition.{Proposition, never, always, signal, name, negated, both_of, either_of}
-use Rattle.semantics.specs.Formula.{Comparison, below, at_most, equal, at_least, above, Symbol, low, high, either, low_stretch, high_stretch, either_stretch, steady, Formula, point, stretch, whole, unit, chop, conjunction, disjunction, star, slen, scount, sdur, drawn, at, gap, negation, for_some}
+use Rattle.semantics.specs.Formula.{Comparison, below, Symbol, Formula, point, stretch, whole, unit, chop, conjunction, disjunction, star, slen, scount, sdur, drawn, at, gap, negation, for_some}
+use Rattle.rows.specs.Symbols.{comparison_numbered, symbol_numbered}
 use Rattle.stored.specs.declared.Node.{Node}
 
 unfoldable pub pick : {A : Type 0} → Bool → A → A → A
@@ -47,10 +48,10 @@ unfoldable pub formula_op : ℕ → FormulaOp
 formula_op op = get_or formula_ops op no_formula
 
 unfoldable pub comparison_of : ℕ → Comparison
-comparison_of q = get_or (below ∷ at_most ∷ equal ∷ at_least ∷ above ∷ []) q below
+comparison_of q = comparison_numbered q
 
 unfoldable pub symbol_of : ℕ → Symbol
-symbol_of q = get_or (low ∷ high ∷ either ∷ either ∷ low_stretch ∷ high_stretch ∷ either_stretch ∷ steady ∷ []) q low
+symbol_of q = symbol_numbered q
 
 -- node n, whose proposition operands are p's
 unfoldable pub proposition_of : PropositionOp → Node → (ℕ → Proposition) → Proposition

@@ -4,17 +4,56 @@ ghost use Rattle.stored.specs.Bytes.{every_below};
 ghost use Rattle.stored.specs.Layout.{node_size, clause_size, most_nodes};
 ghost use Rattle.stored.specs.Node.{node_at};
 ghost use Rattle.stored.specs.Reach.{reach_table};
-ghost use Rattle.stored.specs.Clause.{stored_at, parts_used, part_right, clause_right, clause_right_at, part_covered, clause_covered, clause_covered_at};
+ghost use Rattle.stored.specs.Types.{type_stored, role_number};
+ghost use Rattle.stored.specs.Clause.{type_of, stored_at, parts_used, part_right, clause_right, clause_right_at, part_covered, clause_covered, clause_covered_at};
 
 use crate::bytes::listed;
 use crate::{StoredClause, bytes, layout, masks, nodes};
 
-// The roles by their numbers.
-pub const ASSUMPTION: usize = 0;
+// The types of clauses, with the numbers that document 01 gives them.
+#[derive(Clone, Copy)]
+pub enum ClauseType {
+    Pref = 1,
+    Init = 2,
+    Anti = 3,
+    Implies = 4,
+    Follows = 5,
+    Triggers = 6,
+}
 
-pub const COMMITMENT: usize = 1;
+// Any number has a type, as a clause's meaning has it: one that document 01 gives to none stands for the first. A `TryFrom` would have an
+// Err that nobody can take, since rule 8 keeps the numbers of a sheet from 1 to 6.
+impl From<usize> for ClauseType {
+    ghost from_gives = { λ number clause_type. type_stored clause_type ≡ type_of number };
 
-pub const ADVICE: usize = 2;
+    #[tactic(auto, unfolding(crate::specs::Clause::type_of))]
+    fn from(number: usize) -> ClauseType {
+        match number {
+            2 => ClauseType::Init,
+            3 => ClauseType::Anti,
+            4 => ClauseType::Implies,
+            5 => ClauseType::Follows,
+            6 => ClauseType::Triggers,
+            _ => ClauseType::Pref,
+        }
+    }
+}
+
+// The roles, with the numbers that document 01 gives them. A stored byte may be any number, so it is compared with a role's and made none.
+#[derive(Clone, Copy)]
+pub enum Role {
+    Assumption = 0,
+    Commitment = 1,
+    Advice = 2,
+}
+
+impl From<Role> for usize {
+    ghost from_gives = { λ role number. number ≡ role_number role };
+
+    fn from(role: Role) -> usize {
+        role as usize
+    }
+}
 
 // How many parts each type uses; there is no type 0.
 static PARTS: [u8; 7] = [0, 1, 2, 1, 2, 3, 3];
@@ -74,7 +113,7 @@ fn clause_ok(nodes: &[u8], n: usize, d: StoredClause) -> bool
 {
     let used = parts_used(d.clause_type);
     (1..=6).contains(&d.clause_type)
-        && d.role <= ADVICE
+        && d.role <= usize::from(Role::Advice)
         && part_ok(nodes, n, 0 < used, d.root1, d.mask1)
         && part_ok(nodes, n, 1 < used, d.root2, d.mask2)
         && part_ok(nodes, n, 2 < used, d.root3, d.mask3)

@@ -50,14 +50,3 @@ pub const GAP: usize = 29;
 pub const NOT: usize = 30;
 
 pub const SOME: usize = 31;
-
-// The comparisons, as field q has them.
-pub const BELOW: usize = 0;
-
-pub const AT_MOST: usize = 1;
-
-pub const EQUAL: usize = 2;
-
-pub const AT_LEAST: usize = 3;
-
-pub const ABOVE: usize = 4;

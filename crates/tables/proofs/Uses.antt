@@ -6,7 +6,7 @@ use Rattle.std.proofs.Common.{Option, Some, None, ℕ, ◌≤◌, ◌<◌, Bool,
 use borrow.Author.Tests.{eqb-false}
 use lib.ListN.{get_or-eq_default}
 use Rattle.stored.specs.declared.Node.{Node}
-use Rattle.stored.specs.declared.nodes.Use.TheVariants.{Comparison, FormulaNode}
+use Rattle.stored.specs.declared.nodes.Use.TheVariants.{FormulaNode}
 use Rattle.stored.specs.Bytes.{every_below}
 use Rattle.stored.specs.Node.{proposition, formula, no_op, same_sort, requirement_sorts, sort_of, a_use, b_use, q_use}
 use Rattle.semantics.proofs.Tests.{test, both, and_left, and_right, is_false}
@@ -17,11 +17,6 @@ use Rattle.stored.proofs.Rules.{asked, every_number, each_between}
 pub joins_formula : (k : ℕ) → 20 ≤ k → k < 24 → a_use k ≡ FormulaNode
 unfolding a_use
 joins_formula k l h = each_between (λ k. a_use k ≡ FormulaNode) 20 4 (refl, (refl, (refl, (refl, tt)))) k l h
-
--- slen, scount, sdur
-pub counts_compare : (k : ℕ) → 24 ≤ k → k < 27 → q_use k ≡ Comparison
-unfolding q_use
-counts_compare k l h = each_between (λ k. q_use k ≡ Comparison) 24 3 (refl, (refl, (refl, tt))) k l h
 
 -- the ops of a sort
 pub record Ops (low high k : ℕ) : Type 0 where

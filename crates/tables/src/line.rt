@@ -1,7 +1,6 @@
 // Row b of a formula node, from the columns that it is over and its operands' rows in the words.
 ghost use Rattle.std.specs.Prelude.{◌≡◌, false, ◌+◌, ◌*◌, ◌≤◌, ◌<◌, length};
-ghost use Rattle.rows.specs.Symbols as symbols;
-ghost use Rattle.stored.specs.Tree.{comparison_of, symbol_of, formula_op};
+ghost use Rattle.stored.specs.Tree.{formula_op};
 ghost use Rattle.tables.specs.Step.{Usable, is_pair, row_of};
 
 use crate::words::row_at;
@@ -10,39 +9,7 @@ use rows::gap::gap;
 use rows::shape::Symbol;
 use rows::{count, shape};
 use stored::Node;
-use stored::ops::{
-    AND, AT_LEAST, AT_MOST, BELOW, CHOP, EQUAL, MARK, POINT, SCOUNT, SLEN, STRETCH, SYMBOL, WHOLE,
-};
-
-// A comparison by its number. Rule 6 keeps these below 5, so there is no other for a `TryFrom` to refuse; so of symbols.
-fn comparison(q: usize) -> Comparison
-    requires { q < 5 }
-    ensures { symbols.comparison_of result ≡ comparison_of q }
-{
-    match q {
-        BELOW => Comparison::Below,
-        AT_MOST => Comparison::AtMost,
-        EQUAL => Comparison::Equal,
-        AT_LEAST => Comparison::AtLeast,
-        _ => Comparison::Above,
-    }
-}
-
-// A symbol by its number in document 01.
-fn symbol(q: usize) -> Symbol
-    requires { q < 8 }
-    ensures { symbols.symbol_of result ≡ symbol_of q }
-{
-    match q {
-        0 => Symbol::Low,
-        1 => Symbol::High,
-        2 | 3 => Symbol::Either,
-        4 => Symbol::LowStretch,
-        5 => Symbol::HighStretch,
-        6 => Symbol::EitherStretch,
-        _ => Symbol::Steady,
-    }
-}
+use stored::ops::{AND, CHOP, MARK, POINT, SCOUNT, SLEN, STRETCH, SYMBOL, WHOLE};
 
 // ⟨p⟩, [p], [[p]] and {{p}}.
 fn shape_row(x: Node, n: usize, first: u64, second: u64, words: &[u64], own: usize, b: usize) -> u64
@@ -59,12 +26,11 @@ fn shape_row(x: Node, n: usize, first: u64, second: u64, words: &[u64], own: usi
 
 // slen, scount and sdur.
 fn count_row(x: Node, n: usize, first: u64, second: u64, words: &[u64], own: usize, b: usize) -> u64
-    requires usable { Usable x own }
-    requires known_op { (24 ≤ x.op) × (x.op < 27) × (b < n) × (n ≤ 64) }
+    requires { (24 ≤ x.op) × (x.op < 27) × (b < n) × (n ≤ 64) }
     ensures { result ≡ row_of (formula_op x.op) x n first second words.now own b }
 {
     let number = x.b;
-    let compared = comparison(x.q);
+    let compared = Comparison::from(x.q);
     match x.op {
         SLEN => count::slen(compared, number, b, n),
         SCOUNT => count::scount(compared, first, number, b, n),
@@ -102,7 +68,7 @@ pub fn drawing_row(
     ensures { result ≡ row_of (formula_op x.op) x n first second words.now own b }
 {
     match x.op {
-        SYMBOL => shape::drawn(symbol(x.q), first, b, n),
+        SYMBOL => shape::drawn(Symbol::from(x.q), first, b, n),
         MARK => shape::marked(first, b, n),
         _ => gap(first, second, x.a, x.b, b, n),
     }

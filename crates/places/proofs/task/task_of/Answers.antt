@@ -1,31 +1,29 @@
 -- `places::task::task_of` meets its contract.
-use Rattle.std.proofs.Common.{sym, ◌∙◌, ap, ◌≡◌, arith}
+use Rattle.std.proofs.Common.{◌∙◌}
 use Rattle.places.specs.Task.{type_numbered, task_of}
-use Rattle.places.proofs.Tasks.{fields}
+use Rattle.places.proofs.Tasks.{task_typed}
 use Rattle.places.proofs.task.task_of.Goals as goal
 
-pub returns-in-1 : goal.returns-in-1
+pub returns-in-Pref : goal.returns-in-Pref
 unfolding task_of type_numbered
-returns-in-1 c = c.task_over.ensures ∙ ap (λ k. task_of (fields k c.args.d)) (sym c.in-1.is)
+returns-in-Pref c = c.task_over.ensures ∙ task_typed c.args.d _ c.in-Pref.ensures c.requires.0 c.requires.1
 
-pub returns-in-2 : goal.returns-in-2
+pub returns-in-Init : goal.returns-in-Init
 unfolding task_of type_numbered
-returns-in-2 c = c.task_over-in-2.ensures ∙ ap (λ k. task_of (fields k c.args.d)) (sym c.in-2.is)
+returns-in-Init c = c.task_over-in-Init.ensures ∙ task_typed c.args.d _ c.in-Init.ensures c.requires.0 c.requires.1
 
-pub returns-in-3 : goal.returns-in-3
+pub returns-in-Anti : goal.returns-in-Anti
 unfolding task_of type_numbered
-returns-in-3 c = c.task_over-in-3.ensures ∙ ap (λ k. task_of (fields k c.args.d)) (sym c.in-3.is)
+returns-in-Anti c = c.task_over-in-Anti.ensures ∙ task_typed c.args.d _ c.in-Anti.ensures c.requires.0 c.requires.1
 
-pub returns-in-4 : goal.returns-in-4
+pub returns-in-Implies : goal.returns-in-Implies
 unfolding task_of type_numbered
-returns-in-4 c = c.task_over-in-4.ensures ∙ ap (λ k. task_of (fields k c.args.d)) (sym c.in-4.is)
+returns-in-Implies c = c.task_over-in-Implies.ensures ∙ task_typed c.args.d _ c.in-Implies.ensures c.requires.0 c.requires.1
 
-pub returns-in-5 : goal.returns-in-5
+pub returns-in-Follows : goal.returns-in-Follows
 unfolding task_of type_numbered
-returns-in-5 c = c.task_over-in-5.ensures ∙ ap (λ k. task_of (fields k c.args.d)) (sym c.in-5.is)
+returns-in-Follows c = c.task_over-in-Follows.ensures ∙ task_typed c.args.d _ c.in-Follows.ensures c.requires.0 c.requires.1
 
-pub returns-in_default : goal.returns-in_default
+pub returns-in-Triggers : goal.returns-in-Triggers
 unfolding task_of type_numbered
-returns-in_default c =
-    let at : 6 ≡ c.args.d.clause_type = omega arith in
-    c.task_over-in_default.ensures ∙ ap (λ k. task_of (fields k c.args.d)) at
+returns-in-Triggers c = c.task_over-in-Triggers.ensures ∙ task_typed c.args.d _ c.in-Triggers.ensures c.requires.0 c.requires.1

@@ -4,22 +4,17 @@ use Rattle.semantics.specs.Proposition.{bit}
 use Rattle.semantics.specs.Formula as formula
 use Rattle.semantics.specs.Formula.{drawn_on}
 use Rattle.rows.specs.Row.{row}
-use Rattle.stored.specs.Node.{q_use}
-use Rattle.stored.specs.Tree.{formula_op}
+use Rattle.stored.specs.Tree.{formula_op, symbol_of}
 use Rattle.tables.specs.Step.{row_of}
 use Rattle.tables.proofs.Rows.{row_told}
 use Rattle.tables.proofs.line.drawing_row.Goals as goal
 
-pub symbol-requires : goal.symbol-requires
-unfolding q_use
-symbol-requires c = omega (arith, c.requires.usable.symbol (ap q_use c.in-27.is))
-
 pub returns-in-27 : goal.returns-in-27
-unfolding formula_op row_of
+unfolding formula_op row_of symbol_of
 returns-in-27 c =
     let a = c.args in
     row_told a.x 27 a.n a.first a.second a.words.now a.own a.b _ c.in-27.is
-    (c.drawn.ensures ∙ ap (λ (s : formula.Symbol). row a.n (λ b e. drawn_on s (bit a.first) b e) a.b) c.symbol.ensures)
+    (c.drawn.ensures ∙ ap (λ (s : formula.Symbol). row a.n (λ b e. drawn_on s (bit a.first) b e) a.b) c.from.ensures)
 
 pub returns-in-28 : goal.returns-in-28
 unfolding formula_op row_of

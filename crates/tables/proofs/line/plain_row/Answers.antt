@@ -8,7 +8,7 @@ count_row-requires c =
     let q = c.requires in
     let last = no_pair c.args.x.op q.known_op.2 (omega (arith, c.if-x-lt-CHOP.false)) in
     let other = q.known_op.3 in
-    record { usable = q.usable; known_op = omega (arith, last) }
+    omega (arith, last)
 
 pub returns-then-x-lt-CHOP : goal.returns-then-x-lt-CHOP
 returns-then-x-lt-CHOP c = c.shape_row.ensures
