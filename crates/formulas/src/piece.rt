@@ -121,7 +121,7 @@ fn gap(text: &[u8], at: usize, depth: usize, nodes: &mut Nodes) -> Option<usize>
     Some(end)
 }
 
-// The piece that begins with this word or sign, but no round bracket.
+// The piece that begins with this word or sign, but no round bracket. A match and no table of functions, since they are told other things.
 pub fn piece(text: &[u8], at: usize, depth: usize, nodes: &mut Nodes, word: usize) -> Option<usize>
     requires ready { Ready text.now at nodes.old }
     requires other_word { word ≡ 22 → ⊥ }

@@ -25,7 +25,8 @@ pub struct Spot {
     pub cycles: [usize; 3],
 }
 
-// What a walk does at each placement: it looks for the first unanswered place, or gathers the answers.
+// What a walk does at each placement: it looks for the first unanswered place, or gathers the answers. A case and no closure, since a
+// walk for places has a walk for answers inside, and the two are proved as one cycle.
 #[derive(Clone, Copy)]
 pub enum Aim {
     Place,

@@ -62,7 +62,7 @@ pub fn stretch(column: u64, b: usize, n: usize) -> u64
     cycles_from(b, n) & ends
 }
 
-// [[p]]: e too.
+// [[p]]: e too. [p] differs in the mask alone, whose function has another promise: one body for both would be given it and its law.
 pub fn whole(column: u64, b: usize, n: usize) -> u64
     requires { (b < n) × (n ≤ 64) }
     ensures { result ≡ row n (λ b e. every_in b e (bit column)) b }

@@ -105,7 +105,7 @@ fn put_drawing(x: Node, i: usize, n: usize, columns: &[u64], before: &[u64], own
     put_each(own, n, |b| drawing_row(x, n, first, second, before, i, b));
 }
 
-// The rows of a bracket or a count below n.
+// The rows of a bracket or a count below n. It stands beside put_drawing, and not in one with it, so that each loop tells few ops apart.
 fn put_plain(x: Node, i: usize, n: usize, columns: &[u64], before: &[u64], own: &mut [u64])
     requires usable { Usable x i }
     requires known_op { (16 ≤ x.op) × (x.op < 27) × (is_pair x.op ≡ false) × (x.op ≡ 23 → ⊥) × (n ≤ 64) }
