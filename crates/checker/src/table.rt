@@ -7,7 +7,7 @@ ghost use Rattle.stored.specs.Tree.{earlier};
 ghost use Rattle.stored.specs.Refusal.{answered};
 ghost use Rattle.tables.specs.Table.{standing, Inside, row_at};
 ghost use Rattle.tables.specs.Ready.{Given};
-ghost use Rattle.checker.specs.Table.{name_placed, names_placed, heeded, placement_of, table_of, node_refusal, words_after, table_answer, table_refusal};
+ghost use Rattle.checker.specs.Table.{name_placed, names_placed, heeded, placement_of, table_of, node_refusal, words_after, table_answer, table_refusal, table_words};
 
 use stored::layout::LEAST_WORDS;
 use stored::nodes::is_formula_node;
@@ -139,4 +139,12 @@ pub fn table(
         &mut columns,
         words,
     )
+}
+
+// The 64 words of a table's answer: those of a refused table are zero.
+#[tactic(auto, unfolding(crate::specs::Table::table_words))]
+pub fn table_words(answer: Result<[u64; 64], Refusal>) -> [u64; 64]
+    ensures { result ≡ table_words answer }
+{
+    answer.unwrap_or([0; 64])
 }

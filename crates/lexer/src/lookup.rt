@@ -6,16 +6,16 @@ ghost use Rattle.classes.specs.Mark.{mark_of};
 use crate::table::CLASSES;
 use classes::Class;
 
-// The whole table.
-pub fn class_table() -> [u8; 256]
-    ensures { result ≡ class_table }
+// The whole table, in its one place: an array would be laid out anew at each call.
+pub fn class_table() -> &'static [u8; 256]
+    ensures { result.now ≡ class_table }
 {
-    CLASSES
+    &CLASSES
 }
 
 // The class of a byte.
 pub fn class_of(b: u8) -> Class
     ensures { mark_of result ≡ class_of b }
 {
-    CLASSES[b as usize].into()
+    class_table()[b as usize].into()
 }

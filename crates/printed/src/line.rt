@@ -1,7 +1,7 @@
 // What the check and board programs write: a line with the verdict or with the number of the refusal.
-ghost use Rattle.std.specs.Prelude.{◌≡◌, ◌≤◌, length, replicate, IfOk};
+ghost use Rattle.std.specs.Prelude.{◌≡◌, ◌≤◌, ◌<◌, length, replicate, IfOk};
 ghost use Rattle.checker.specs.Small.{SmallVerdict};
-ghost use Rattle.lines.specs.Lines.{Put};
+ghost use Rattle.lines.specs.Lines.{Put, refused_text};
 ghost use Rattle.lines.specs.Output.{Holds};
 ghost use Rattle.printed.specs.Line.{verdict_text, line_text, most_line, line_for, answer_for};
 
@@ -58,6 +58,16 @@ fn answer_for(input: &[u8]) -> Result<Verdict, Refusal>
     let trace = &input[end..size];
     let mut words = lent_words();
     check(sheet, trace, &mut words)
+}
+
+// The line of a refusal's number.
+pub fn refused_line(number: usize) -> Output<MOST_LINE>
+    requires { number < 100 }
+    ensures { Holds result (refused_text number) }
+{
+    let mut bytes = zeros();
+    let length = put_refused(&mut bytes, number);
+    Output { bytes, length }
 }
 
 // The line of an answer.

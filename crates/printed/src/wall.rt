@@ -4,7 +4,7 @@ ghost use Rattle.printed.specs.Line.{line_text};
 ghost use Rattle.lines.specs.Output.{Holds};
 ghost use Rattle.printed.specs.Wall.{Opens, minute_answer, minute_board};
 
-use crate::line::{MOST_LINE, answer_line};
+use crate::line::{MOST_LINE, answer_line, refused_line};
 use board::Board;
 use lines::input::{lent_words, word_at};
 use lines::output::Output;
@@ -25,7 +25,7 @@ pub fn open_line(sheet: &[u8]) -> Result<Board, Output<MOST_LINE>>
 {
     match Board::open(sheet) {
         Ok(board) => Ok(board),
-        Err(refusal) => Err(answer_line(Err(refusal))),
+        Err(refusal) => Err(refused_line(refusal.number())),
     }
 }
 

@@ -1,5 +1,5 @@
 -- Document 01, "The numbered refusals", and those of the change requests: which number each refusal has, and what an operation answers.
-use Rattle.std.specs.Prelude.{ℕ, ◌-◌, List, [], ◌∷◌, eqb, slice_index_or, Result, Ok, Err}
+use Rattle.std.specs.Prelude.{ℕ, ◌-◌, List, [], ◌∷◌, eqb, codes, slice_index_or, Result, Ok, Err}
 use Rattle.stored.specs.declared.refusal.Refusal.{Refusal}
 use Rattle.stored.specs.declared.refusal.Refusal.TheVariants.{SheetNotFramed, UnknownSheetVersion, NotARequirement, CountOutOfRange, WrongSheetLength, InvalidNode, InvalidOperand, InvalidClause, UnlistedName, TraceNotFramed, UnknownTraceVersion, OtherSignals, InvalidCycles, ShortOutput, FewWords, NotAFormula, NameOffTrace, TooDeep, OutsideGrammar, TooLarge, InvalidCycle, BoardFull}
 use Rattle.stored.specs.Tree.{pick}
@@ -27,6 +27,31 @@ number_of OutsideGrammar = 19
 number_of TooLarge = 20
 number_of InvalidCycle = 21
 number_of BoardFull = 22
+
+-- what is printed of a refusal
+unfoldable pub reason_of : Refusal → List ℕ
+reason_of SheetNotFramed = codes "the sheet's length is not that of its length field"
+reason_of UnknownSheetVersion = codes "the sheet's version is not 1"
+reason_of NotARequirement = codes "the sheet is no requirement"
+reason_of CountOutOfRange = codes "a count of the sheet is out of range"
+reason_of WrongSheetLength = codes "the sheet's length is not that of its counts"
+reason_of InvalidNode = codes "a node has a field out of range"
+reason_of InvalidOperand = codes "an operand is no earlier node of the right sort"
+reason_of InvalidClause = codes "a clause has a field out of range"
+reason_of UnlistedName = codes "a part reaches a name that it doesn't list"
+reason_of TraceNotFramed = codes "the trace's length is not that of its length field"
+reason_of UnknownTraceVersion = codes "the trace's version is not 1"
+reason_of OtherSignals = codes "the trace has other signals than the sheet"
+reason_of InvalidCycles = codes "the cycles are not 1 to 64 whole words of the signals"
+reason_of ShortOutput = codes "the lent bytes are too few"
+reason_of FewWords = codes "the lent words are too few"
+reason_of NotAFormula = codes "the node asked for is no formula"
+reason_of NameOffTrace = codes "a name is put on no cycle of the trace"
+reason_of TooDeep = codes "too many round brackets are open"
+reason_of OutsideGrammar = codes "the text is outside the grammar"
+reason_of TooLarge = codes "the sheet has too many nodes or clauses"
+reason_of InvalidCycle = codes "the cycle has a signal that the sheet hasn't"
+reason_of BoardFull = codes "the board has no room for a cycle"
 
 -- the numbers are 1 to 22
 abbrev pub last_number : ℕ

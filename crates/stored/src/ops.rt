@@ -1,4 +1,5 @@
 // The ops of nodes, as document 01 numbers them.
+// Numbers and no enum: a node's byte may be any, and rule 6 tells which are ops (definition `node_at`, `sort_of`).
 // Propositions. Where formulas have the same word, theirs is the bare one.
 pub const FALSE: usize = 1;
 

@@ -1,6 +1,6 @@
 // Why an operation refuses: the refusals of document 01 and of the change requests, each with its number.
-ghost use Rattle.std.specs.Prelude.{◌≡◌, ◌≤◌};
-ghost use Rattle.stored.specs.Refusal.{last_number, number_of};
+ghost use Rattle.std.specs.Prelude.{◌≡◌, ◌≤◌, Some};
+ghost use Rattle.stored.specs.Refusal.{last_number, number_of, reason_of};
 
 use std::error::Error;
 use std::fmt;
@@ -46,11 +46,13 @@ impl Refusal {
     {
         self as usize
     }
-}
 
-impl fmt::Display for Refusal {
-    fn fmt<W: fmt::Write>(&self, f: &mut fmt::Formatter<W>) -> fmt::Result {
-        f.write_str(match self {
+    // What is printed of it.
+    #[tactic(auto, unfolding(crate::specs::Refusal::reason_of))]
+    fn reason(self) -> &'static str
+        ensures { result.now ≡ reason_of self }
+    {
+        match self {
             Refusal::SheetNotFramed => "the sheet's length is not that of its length field",
             Refusal::UnknownSheetVersion => "the sheet's version is not 1",
             Refusal::NotARequirement => "the sheet is no requirement",
@@ -73,7 +75,15 @@ impl fmt::Display for Refusal {
             Refusal::TooLarge => "the sheet has too many nodes or clauses",
             Refusal::InvalidCycle => "the cycle has a signal that the sheet hasn't",
             Refusal::BoardFull => "the board has no room for a cycle",
-        })
+        }
+    }
+}
+
+impl fmt::Display for Refusal {
+    ghost output = { λ refusal. Some (reason_of refusal) };
+
+    fn fmt<W: fmt::Write>(&self, f: &mut fmt::Formatter<W>) -> fmt::Result {
+        f.write_str(self.reason())
     }
 }
 
